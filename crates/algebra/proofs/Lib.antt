@@ -1,0 +1,10 @@
+pub mod Field
+pub mod Row
+pub mod Act
+pub mod Poly
+pub mod Gcd
+pub mod Orders
+pub mod Echelon
+pub mod Spin
+pub mod Chain
+pub mod Final

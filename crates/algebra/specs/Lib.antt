@@ -1,0 +1,7 @@
+pub mod Field
+pub mod Row
+pub mod Poly
+pub mod Echelon
+pub mod Spin
+pub mod Gcd
+pub mod Orders

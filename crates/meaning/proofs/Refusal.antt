@@ -1,0 +1,243 @@
+-- What the refusal table says where a call is not refused, and where it is.
+-- Assumes nothing.
+use mathlib.Core.Path.{_≡_, refl, sym, ap, _∙_}
+use mathlib.Core.Logic.{⊎-elim}
+use mathlib.Core.Bool.{Bool, true, false, not, _&&_, _||_, true≢false, and-eq-true-iff}
+use mathlib.Core.List.{List, [], _∷_, _++_}
+use mathlib.Core.Option.{none, Option·none-ne-some}
+use Prim.Native.Nat.{ℕ, zero, suc, _+_, _*_, _/_, _%_, _<_, _≤_}
+use native.Mathlib.Nat.{add-zero, le-refl, le-step, le-of-suc-le-suc, not-suc-le-zero, eq-or-lt-of-le, div-add-mod', mul-mod-left, div-eq-of-eq-mul-left}
+use native.Mathlib.Decide.{decLe}
+use native.Mathlib.Omega.{arith}
+use lib.ListN.{length, getD}
+use lib.Dec.{leb, ltb, eqb}
+use borrow.Author.Tests.{ltb-true, ltb-false, leb-true, leb-false, eqb-true, eqb-false, not-true, not-false, lt-ltb, le-ltb, le-leb, lt-leb, eq-eqb, ne-eqb}
+use Rattle.algebra.specs.Field.{Prime}
+use Rattle.meaning.specs.Refusal.{allBelow, isPrime, every, noPrime, noSize, noMatrix, noRows, noVector, noPolynomial, badEntry, tooShort, first}
+use Rattle.meaning.specs.Refusal.{inverseRefusal, orderRefusal, imageRefusal, standRefusal, chainRefusal, periodRefusal}
+use Rattle.meaning.proofs.Bytes.{Small}
+
+-- tests joined
+or-false : (a b : Bool) → (a || b) ≡ false → (a ≡ false) × (b ≡ false)
+or-false true b q = absurd (true≢false q)
+or-false false b q = (refl, q)
+
+both-true : (a b : Bool) → not (a && b) ≡ false → (a ≡ true) × (b ≡ true)
+both-true a b q = and-eq-true-iff a b .0 (not-false _ q)
+
+between-true : (a n b : ℕ) → not (leb a n && leb n b) ≡ false → (a ≤ n) × (n ≤ b)
+between-true a n b q =
+    let t = both-true (leb a n) (leb n b) q in
+    (leb-true a n (t .0), leb-true n b (t .1))
+
+between-false : (a n b : ℕ) → a ≤ n → n ≤ b → not (leb a n && leb n b) ≡ false
+between-false a n b h k = rw (le-leb a n h, le-leb n b k)
+
+allBelow-true : (k : ℕ) (t : ℕ → Bool) → allBelow k t ≡ true → (a : ℕ) → a < k → t a ≡ true
+unfolding allBelow
+allBelow-true zero t q a h = absurd (not-suc-le-zero h)
+allBelow-true (suc k) t q a h =
+    let b = and-eq-true-iff (t k) (allBelow k t) .0 q in
+    ⊎-elim (λ e. ap t e ∙ b .0) (allBelow-true k t (b .1) a) (eq-or-lt-of-le (le-of-suc-le-suc h))
+
+true-allBelow : (k : ℕ) (t : ℕ → Bool) → ((a : ℕ) → a < k → t a ≡ true) → allBelow k t ≡ true
+unfolding allBelow
+true-allBelow zero t h = refl
+true-allBelow (suc k) t h = and-eq-true-iff (t k) _ .1 (h k (le-refl _), true-allBelow k t (λ a l. h a (le-step l)))
+
+-- the prime test is right, both ways
+pub isPrime-prime : (p : ℕ) → isPrime p ≡ true → Prime p × (p ≤ 251)
+unfolding isPrime
+isPrime-prime p q =
+    let t = and-eq-true-iff (leb 2 p) _ .0 q in
+    let u = and-eq-true-iff (leb p 251) _ .0 (t .1) in
+    let all = allBelow-true p _ (u .1) in
+    (record { big = leb-true 2 p (t .0); irr = λ a g h. eqb-false (p % a) 0 (not-true _ (rw (lt-leb a 1 g) at (all a h))) }, leb-true p 251 (u .0))
+
+pub prime-isPrime : (p : ℕ) → Prime p → p ≤ 251 → isPrime p ≡ true
+unfolding isPrime
+prime-isPrime p P h = rw (le-leb 2 p (P .big), le-leb p 251 h) (true-allBelow p _ at)
+  where
+    at : (a : ℕ) → a < p → (leb a 1 || not (eqb (p % a) 0)) ≡ true
+    at a l =
+        elim (decLe a 1) [
+          | yes s ↦ rw (le-leb a 1 s)
+          | no s ↦ rw (lt-leb a 1 (omega arith), ne-eqb (p % a) 0 (P .irr a (omega arith) l))
+        ]
+
+-- each test of the table, both ways: it does not apply exactly when its input is good
+pub noPrime-false : (p : ℕ) → noPrime p ≡ false → Prime p × (p ≤ 251)
+unfolding noPrime
+noPrime-false p q = isPrime-prime p (not-false _ q)
+
+pub prime-noPrime : (p : ℕ) → Prime p → p ≤ 251 → noPrime p ≡ false
+unfolding noPrime
+prime-noPrime p P h = ap not (prime-isPrime p P h)
+
+pub noSize-false : (n : ℕ) → noSize n ≡ false → (1 ≤ n) × (n ≤ 64)
+unfolding noSize
+noSize-false n q = between-true 1 n 64 q
+
+pub size-noSize : (n : ℕ) → 1 ≤ n → n ≤ 64 → noSize n ≡ false
+unfolding noSize
+size-noSize n h k = between-false 1 n 64 h k
+
+pub noMatrix-false : (n : ℕ) (m : List ℕ) → noMatrix n m ≡ false → length m ≡ n * n
+unfolding noMatrix
+noMatrix-false n m q = eqb-true (length m) (n * n) (not-false _ q)
+
+pub matrix-noMatrix : (n : ℕ) (m : List ℕ) → length m ≡ n * n → noMatrix n m ≡ false
+unfolding noMatrix
+matrix-noMatrix n m q = ap not (eq-eqb (length m) (n * n) q)
+
+pub noRows-false : (n : ℕ) (cs : List ℕ) → 0 < n → noRows n cs ≡ false → (length cs ≡ length cs / n * n) × (length cs / n ≤ 128)
+unfolding noRows
+noRows-false n cs h q =
+    let t = both-true _ _ q in
+    (sym (div-add-mod' (length cs) n) ∙ ap (λ r. length cs / n * n + r) (eqb-true _ 0 (t .0)) ∙ add-zero _, leb-true _ 128 (t .1))
+
+pub rows-noRows : (n : ℕ) (cs : List ℕ) → 0 < n → (k : ℕ) → length cs ≡ k * n → k ≤ 128 → noRows n cs ≡ false
+unfolding noRows
+rows-noRows n cs h k q j =
+    rw (eq-eqb (length cs % n) 0 (ap (λ c. c % n) q ∙ mul-mod-left k n), div-eq-of-eq-mul-left h q, le-leb k 128 j)
+
+pub noVector-false : (n : ℕ) (v : List ℕ) → noVector n v ≡ false → length v ≡ n
+unfolding noVector
+noVector-false n v q = eqb-true (length v) n (not-false _ q)
+
+pub vector-noVector : (n : ℕ) (v : List ℕ) → length v ≡ n → noVector n v ≡ false
+unfolding noVector
+vector-noVector n v q = ap not (eq-eqb (length v) n q)
+
+pub noPolynomial-false : (f : List ℕ) → noPolynomial f ≡ false → (1 ≤ length f) × (length f ≤ 65)
+unfolding noPolynomial
+noPolynomial-false f q = between-true 1 (length f) 65 q
+
+pub polynomial-noPolynomial : (f : List ℕ) → 1 ≤ length f → length f ≤ 65 → noPolynomial f ≡ false
+unfolding noPolynomial
+polynomial-noPolynomial f h k = between-false 1 (length f) 65 h k
+
+pub badEntry-false : (p : ℕ) (l : List ℕ) → badEntry p l ≡ false → Small p l
+unfolding badEntry every
+badEntry-false p [] q = tt
+badEntry-false p (x ∷ l) q =
+    let t = both-true (ltb x p) _ q in
+    (ltb-true x p (t .0), badEntry-false p l (ap not (t .1)))
+
+pub small-badEntry : (p : ℕ) (l : List ℕ) → Small p l → badEntry p l ≡ false
+unfolding badEntry every
+small-badEntry p [] h = refl
+small-badEntry p (x ∷ l) h = rw (lt-ltb x p (h .0)) (small-badEntry p l (h .1))
+
+pub small-append : (p : ℕ) (a b : List ℕ) → Small p a → Small p b → Small p (a ++ b)
+small-append p [] b h k = k
+small-append p (x ∷ a) b h k = (h .0, small-append p a b (h .1) k)
+
+pub tooShort-false : (k : ℕ) (out : List ℕ) → tooShort k out ≡ false → k ≤ length out
+unfolding tooShort
+tooShort-false k out q = ltb-false (length out) k q
+
+pub long-tooShort : (k : ℕ) (out : List ℕ) → k ≤ length out → tooShort k out ≡ false
+unfolding tooShort
+long-tooShort k out h = le-ltb (length out) k h
+
+-- the first test that applies
+pub first-none : (k : ℕ) (b : Bool) (ts : List (ℕ × Bool)) → first ((k, b) ∷ ts) ≡ none → (b ≡ false) × (first ts ≡ none)
+unfolding first
+first-none k true ts q = absurd (Option·none-ne-some k (sym q))
+first-none k false ts q = (refl, q)
+
+pub none-first : (k : ℕ) (b : Bool) (ts : List (ℕ × Bool)) → b ≡ false → first ts ≡ none → first ((k, b) ∷ ts) ≡ none
+unfolding first
+none-first k true ts q r = absurd (true≢false q)
+none-first k false ts q r = r
+
+-- where no number is due, test i of the list does not apply, counted from 0
+first-clear : (ts : List (ℕ × Bool)) → first ts ≡ none → (i : ℕ) → getD ts i (0, false) .1 ≡ false
+first-clear [] q i = refl
+first-clear (t ∷ ts) q zero = first-none (t .0) (t .1) ts q .0
+first-clear (t ∷ ts) q (suc i) = first-clear ts (first-none (t .0) (t .1) ts q .1) i
+
+-- what is known of an input that is not refused
+pub record Sound (p n : ℕ) (m : List ℕ) : Type 0 where
+  pub prime : Prime p
+  pub most : p ≤ 251
+  pub some-size : 1 ≤ n
+  pub size : n ≤ 64
+  pub matrix : length m ≡ n * n
+  pub entries : Small p m
+
+pub record SoundRows (p n : ℕ) (cs : List ℕ) : Type 0 where
+  pub whole : length cs ≡ length cs / n * n
+  pub few : length cs / n ≤ 128
+  pub entries : Small p cs
+
+sound : (p n : ℕ) (m : List ℕ) → noPrime p ≡ false → noSize n ≡ false → noMatrix n m ≡ false → badEntry p m ≡ false → Sound p n m
+sound p n m a b c d =
+    let P = noPrime-false p a in
+    let N = noSize-false n b in
+    record { prime = P .0; most = P .1; some-size = N .0; size = N .1; matrix = noMatrix-false n m c; entries = badEntry-false p m d }
+
+-- the tests of stand and chain, which lend two buffers
+rows-sound : (p n : ℕ) (m cs : List ℕ) (j : ℕ) (a : List ℕ) (k : ℕ) (b : List ℕ)
+    → first ((1, noPrime p) ∷ (2, noSize n) ∷ (3, noMatrix n m) ∷ (4, noRows n cs) ∷ (5, badEntry p m || badEntry p cs)
+    ∷ (6, tooShort j a || tooShort k b) ∷ []) ≡ none
+    → Sound p n m × SoundRows p n cs × (j ≤ length a) × (k ≤ length b)
+rows-sound p n m cs j a k b q =
+    let c = first-clear _ q in
+    let g = or-false (badEntry p m) (badEntry p cs) (c 4) in
+    let s = or-false (tooShort j a) (tooShort k b) (c 5) in
+    let A = sound p n m (c 0) (c 1) (c 2) (g .0) in
+    let r = noRows-false n cs (A .some-size) (c 3) in
+    (A, record { whole = r .0; few = r .1; entries = badEntry-false p cs (g .1) }, tooShort-false j a (s .0), tooShort-false k b (s .1))
+
+pub inverse-sound : (p a : ℕ) → inverseRefusal p a ≡ none → Prime p × (p ≤ 251) × (a < p)
+unfolding inverseRefusal
+inverse-sound p a q =
+    let c = first-clear _ q in
+    let P = noPrime-false p (c 0) in
+    (P .0, P .1, leb-false p a (c 1))
+
+pub order-sound : (p n : ℕ) (m v out : List ℕ) → orderRefusal p n m v out ≡ none → Sound p n m × (length v ≡ n) × Small p v × (n + 1 ≤ length out)
+unfolding orderRefusal
+order-sound p n m v out q =
+    let c = first-clear _ q in
+    let g = or-false (badEntry p m) (badEntry p v) (c 4) in
+    let A = sound p n m (c 0) (c 1) (c 2) (g .0) in
+    (A, noVector-false n v (c 3), badEntry-false p v (g .1), tooShort-false (n + 1) out (c 5))
+
+pub image-sound : (p n : ℕ) (m v f out : List ℕ) → imageRefusal p n m v f out ≡ none
+    → Sound p n m × (length v ≡ n) × (1 ≤ length f) × (length f ≤ 65) × Small p v × Small p f × (n ≤ length out)
+unfolding imageRefusal
+image-sound p n m v f out q =
+    let c = first-clear _ q in
+    let l = noPolynomial-false f (c 4) in
+    let g = or-false (badEntry p m) _ (c 5) in
+    let s = or-false (badEntry p v) (badEntry p f) (g .1) in
+    let A = sound p n m (c 0) (c 1) (c 2) (g .0) in
+    (A, noVector-false n v (c 3), l .0, l .1, badEntry-false p v (s .0), badEntry-false p f (s .1), tooShort-false n out (c 6))
+
+pub stand-sound : (p n : ℕ) (m cs poly image : List ℕ) → standRefusal p n m cs poly image ≡ none
+    → Sound p n m × SoundRows p n cs × (n + 1 ≤ length poly) × (n ≤ length image)
+unfolding standRefusal
+stand-sound p n m cs poly image q = rows-sound p n m cs (n + 1) poly n image q
+
+pub chain-sound : (p n : ℕ) (m cs product stages : List ℕ) → chainRefusal p n m cs product stages ≡ none
+    → Sound p n m × SoundRows p n cs × (n + 1 ≤ length product) × (2 * n ≤ length stages)
+unfolding chainRefusal
+chain-sound p n m cs product stages q = rows-sound p n m cs (n + 1) product (2 * n) stages q
+
+pub period-sound : (p n : ℕ) (m : List ℕ) → periodRefusal p n m ≡ none → Sound p n m
+unfolding periodRefusal
+period-sound p n m q =
+    let c = first-clear _ q in
+    sound p n m (c 0) (c 1) (c 2) (c 3)
+
+-- and the other way round, for stand: sound inputs are not refused
+pub sound-stand : (p n : ℕ) (m cs poly image : List ℕ) → Sound p n m → SoundRows p n cs → n + 1 ≤ length poly → n ≤ length image
+    → standRefusal p n m cs poly image ≡ none
+unfolding standRefusal first
+sound-stand p n m cs poly image A B h k =
+    rw (prime-noPrime p (A .prime) (A .most), size-noSize n (A .some-size) (A .size), matrix-noMatrix n m (A .matrix))
+    (rw (rows-noRows n cs (A .some-size) _ (B .whole) (B .few), small-badEntry p m (A .entries), small-badEntry p cs (B .entries))
+    (rw (long-tooShort (n + 1) poly h, long-tooShort n image k)))

@@ -1,0 +1,8 @@
+pub mod Bytes
+pub mod Polynomial
+pub mod Stand
+pub mod Chain
+pub mod Period
+pub mod Refusal
+pub mod Calls
+pub mod Figures
