@@ -15,7 +15,8 @@ use borrow.Author.Tests.{ltb-true, ltb-false, leb-true, leb-false, eqb-true, eqb
 use Rattle.algebra.specs.Field.{Prime}
 use Rattle.meaning.specs.Refusal.{allBelow, isPrime, every, noPrime, noSize, noMatrix, noRows, noVector, noPolynomial, badEntry, tooShort, first}
 use Rattle.meaning.specs.Refusal.{inverseRefusal, orderRefusal, imageRefusal, standRefusal, chainRefusal, periodRefusal}
-use Rattle.meaning.proofs.Bytes.{Small}
+use Rattle.meaning.specs.Bytes.{Small}
+use Rattle.meaning.specs.Bounds.{Sound, SoundRows}
 
 -- tests joined
 or-false : (a b : Bool) → (a || b) ≡ false → (a ≡ false) × (b ≡ false)
@@ -159,19 +160,6 @@ first-clear (t ∷ ts) q zero = first-none (t .0) (t .1) ts q .0
 first-clear (t ∷ ts) q (suc i) = first-clear ts (first-none (t .0) (t .1) ts q .1) i
 
 -- what is known of an input that is not refused
-pub record Sound (p n : ℕ) (m : List ℕ) : Type 0 where
-  pub prime : Prime p
-  pub most : p ≤ 251
-  pub some-size : 1 ≤ n
-  pub size : n ≤ 64
-  pub matrix : length m ≡ n * n
-  pub entries : Small p m
-
-pub record SoundRows (p n : ℕ) (cs : List ℕ) : Type 0 where
-  pub whole : length cs ≡ length cs / n * n
-  pub few : length cs / n ≤ 128
-  pub entries : Small p cs
-
 sound : (p n : ℕ) (m : List ℕ) → noPrime p ≡ false → noSize n ≡ false → noMatrix n m ≡ false → badEntry p m ≡ false → Sound p n m
 sound p n m a b c d =
     let P = noPrime-false p a in

@@ -1,0 +1,64 @@
+-- Demand 2: the polynomial is the least that sends the taken rows to zero; it is marked proved exactly when it is the minimal polynomial,
+-- and else the witness is the first unit row that it does not send to zero.
+-- Assumes nothing.
+use mathlib.Core.Path.{_≡_, refl, subst}
+use mathlib.Core.List.{List}
+use Prim.Native.Nat.{ℕ, suc, _<_, _≤_}
+use native.Mathlib.Omega.{arith}
+use lib.ListN.{take}
+use Rattle.algebra.specs.Row.{S, unit}
+use Rattle.algebra.specs.Poly.{Poly, _∣_, Least, Kills}
+use Rattle.algebra.specs.Orders.{AllBelow, KillsAll, KillsEvery}
+use Rattle.algebra.proofs.Poly.{least-divides}
+use Rattle.algebra.proofs.Orders.{kills-all-ideal, kills-every-all, least-minimal}
+use Rattle.meaning.specs.Bytes.{times, rows, e}
+use Rattle.meaning.specs.Polynomial.{IsMinimal}
+use Rattle.meaning.specs.Stand.{Standing, proved, short, Outcome, IsStand}
+use Rattle.meaning.proofs.Bytes.{times-linear, e-below, rows-below}
+use Rattle.meaning.proofs.Degrees.{below-take, stand-least}
+use Rattle.promises.specs.Witness.{FirstUnsent}
+
+-- the unit rows e(1), .., e(n) are those at the places below n
+e-units : {p : ℕ} (X : S p → S p) (n : ℕ) (f : Poly p) → ((i : ℕ) → 1 ≤ i → i ≤ n → Kills X (e i) f) → (i : ℕ) → i < n → Kills X (unit i) f
+unfolding e
+e-units X n f h i l = subst (λ j. Kills X (unit j) f) (omega arith) (h (suc i) (omega arith) l)
+
+taken-below : (p n : ℕ) (cs : List ℕ) (t : ℕ) → AllBelow n (take t (rows p n cs))
+taken-below p n cs t = below-take n t (rows p n cs) (rows-below p n cs)
+
+-- the lcm of the taken rows' orders is the least monic polynomial that sends every taken row to zero
+pub polynomial-least : {p : ℕ} (n : ℕ) (m cs : List ℕ) (a : ℕ) (r : Outcome) (f : Poly p) → IsStand p n m cs a r f
+    → Least (KillsAll (times p n m) (take (r .taken) (rows p n cs))) (r .degree) f
+polynomial-least = stand-least
+
+-- it divides whatever sends M to zero
+pub polynomial-divides : {p : ℕ} (n : ℕ) (m cs : List ℕ) (a : ℕ) (r : Outcome) (f : Poly p) → IsStand p n m cs a r f
+    → (g : Poly p) → KillsEvery n (times p n m) g → f ∣ g
+polynomial-divides {p} n m cs a r f A g h =
+    let vs = take (r .taken) (rows p n cs) in
+    least-divides (kills-all-ideal (times-linear p n m) vs) (polynomial-least n m cs a r f A) g
+    (kills-every-all (times p n m) n vs (taken-below p n cs (r .taken)) g h)
+
+-- proved: F sends M to zero, and no nonzero polynomial of lower degree does
+pub proved-minimal : {p : ℕ} (n : ℕ) (m cs : List ℕ) (a : ℕ) (r : Outcome) (f : Poly p) → IsStand p n m cs a r f → r .standing ≡ proved
+    → IsMinimal p n m (r .degree) f
+proved-minimal {p} n m cs a r f A q =
+    let t = rw q at (A .tested) in
+    let vs = take (r .taken) (rows p n cs) in
+    least-minimal (times-linear p n m) n vs (taken-below p n cs (r .taken)) (polynomial-least n m cs a r f A) (e-units _ n f (t .0))
+
+-- and only then
+pub minimal-proved : {p : ℕ} (n : ℕ) (m cs : List ℕ) (a : ℕ) (r : Outcome) (f : Poly p) → IsStand p n m cs a r f
+    → KillsEvery n (times p n m) f → r .standing ≡ proved
+minimal-proved {p} n m cs a r f A h = go (r .standing) refl
+  where
+    go : (s : Standing) → r .standing ≡ s → r .standing ≡ proved
+    go proved q = q
+    go short q = let t = rw q at (A .tested) in absurd (t .2 (h (e (r .witness)) (e-below n _ (t .0) (t .1))))
+
+-- short: the witness is the first unit row that F does not send to zero
+pub short-witness : {p : ℕ} (n : ℕ) (m cs : List ℕ) (a : ℕ) (r : Outcome) (f : Poly p) → IsStand p n m cs a r f → r .standing ≡ short
+    → FirstUnsent (times p n m) n f (r .witness)
+short-witness n m cs a r f A q =
+    let t = rw q at (A .tested) in
+    record { from = t .0; to = t .1; unsent = t .2; first = t .3 }

@@ -1,0 +1,94 @@
+-- P1 to P11 hold of the definitions: the functions of Run, which give what the definitions ask for on every input, are run on the table.
+-- Assumes nothing.
+use mathlib.Core.Path.{_≡_, refl, ap, ap₂, _∙_}
+use mathlib.Core.Bool.{Bool, true}
+use mathlib.Core.List.{List, [], _∷_, map}
+use mathlib.Core.Option.{Option}
+use Prim.Native.Nat.{ℕ, suc}
+use Rattle.algebra.specs.Field.{fp, inv, inv-steps, 𝟘, 𝟙, _⊕_, _⊗_, neg, isZero}
+use Rattle.algebra.specs.Row.{unit, 0ᵥ, _+ᵥ_, _·ᵥ_, comb}
+use Rattle.algebra.specs.Poly.{Poly, coef, poly, _⊞_, _⊡_, _⊠_, act}
+use Rattle.algebra.specs.Gcd.{size, head, monic, divide-turn, divide, gcd-steps, gcd, lcm, lcms}
+use Rattle.algebra.specs.Echelon.{lead, deeper, clear, reduce}
+use Rattle.algebra.specs.Orders.{Order, Alike, units, product}
+use Rattle.algebra.specs.Spin.{long, cut, tail, cutKept, newKept, spin, spinOver, orderOf, keep, chain}
+use Rattle.algebra.proofs.Chain.{alike-product}
+use Rattle.meaning.specs.Bytes.{tab, row, rowAt, byteRows, rows, times, bytes, e}
+use Rattle.meaning.specs.Stand.{sum, Outcome}
+use Rattle.meaning.specs.Period.{longest}
+use Rattle.meaning.specs.Refusal.{isPrime, allBelow}
+use Rattle.promises.specs.Figures.{Sheet, Figure, asked, written, sheet, Holds, AllHold, table}
+use Rattle.meaning.proofs.Refusal.{isPrime-prime}
+use Rattle.meaning.proofs.Unique.{stand-only, chain-only, period-only, witness-only, alike-length}
+use Rattle.promises.specs.Run.{takenOf, witnessOf, standingOf, ordersOf, standOrders, standTaken, standPoly, standWitness, standOf, chainOf}
+use Rattle.promises.specs.Run.{same, sameRows, firstPower, nextPower, periodFrom, periodOf}
+use Rattle.promises.proofs.Found.{stand-found, chain-found, period-found}
+
+alike-written : {p : ℕ} (os qs : List (Order p)) → Alike os qs → map written os ≡ map written qs
+unfolding written
+alike-written [] [] h = refl
+alike-written [] (q ∷ qs) h = absurd h
+alike-written (o ∷ os) [] h = absurd h
+alike-written (o ∷ os) (q ∷ qs) h = ap₂ _∷_ (ap₂ (λ d s. bytes (suc d) s) (h .0) (h .1)) (alike-written os qs (h .2))
+
+module _ (g : Figure) where
+  open Figure g using (p, n, m, cs, a, shows)
+
+  -- a sheet depends on the polynomial and the stages through their coefficients only
+  sheet-only : (r s : Outcome) (f k : Poly p) (st ss : List (Order p)) (t u : Option ℕ) → r ≡ s → coef f ≡ coef k → Alike st ss → t ≡ u
+      → sheet g r f st t ≡ sheet g s k ss u
+  unfolding sheet
+  sheet-only r s f k st ss t u q h c d = λ i. record {
+    standing = q i .standing;
+    poly = bytes (suc (q i .degree)) (h i);
+    taken = asked (shows .taken) (q i .taken);
+    spent = asked (shows .spent) (q i .spent);
+    witness = asked (shows .witness) (q i .witness);
+    image = asked (shows .image) (bytes n (witness-only (times p n m) f k h (q i .standing) (q i .witness) i));
+    count = asked (shows .count) (alike-length st ss c i);
+    stages = asked (shows .stages) (alike-written st ss c i);
+    product = asked (shows .product) (bytes (suc n) (alike-product st ss c i));
+    period = asked (shows .period) (d i);
+  }
+
+  -- the test of p, and the sheet that the functions give; and what both should be
+  run : Bool × Sheet
+  run = (isPrime p, sheet g (standOf p n m cs a) (standPoly p n m cs a) (chainOf p n m cs) (periodOf p n m))
+
+  claim : Bool × Sheet
+  claim = (true, shows)
+
+  run-holds : run ≡ claim → Holds g
+  unfolding run claim
+  run-holds q =
+      let P = isPrime-prime p (ap (λ x. x .0) q) .0 in
+      let A = stand-found P n m cs a in
+      let C = chain-found P n m cs in
+      let T = period-found p n m in
+      record {
+        outcome = standOf p n m cs a;
+        poly = standPoly p n m cs a;
+        stages = chainOf p n m cs;
+        period = periodOf p n m;
+        stand-holds = A;
+        chain-holds = C;
+        period-holds = T;
+        only = λ r f st t B D U.
+            let s = stand-only P n m cs a r _ f _ B A in
+            sheet-only r _ f _ st _ t _ (s .0) (s .1) (chain-only P n m cs st _ D C) (period-only p n m t (periodOf p n m) U T)
+            ∙ ap (λ x. x .1) q;
+      }
+
+runs-hold : (gs : List Figure) → map run gs ≡ map claim gs → AllHold gs
+runs-hold [] q = tt
+runs-hold (g ∷ gs) q = (run-holds g (cc), runs-hold gs (cc))
+
+table-runs : map run table ≡ map claim table
+unfolding run claim isPrime allBelow fp inv inv-steps 𝟘 𝟙 _⊕_ _⊗_ neg isZero unit 0ᵥ _+ᵥ_ _·ᵥ_ comb act coef poly _⊞_ _⊡_ _⊠_ size head
+    monic divide-turn divide gcd-steps gcd lcm lcms lead deeper clear reduce units product long cut tail cutKept newKept spin spinOver
+    orderOf keep chain tab row rowAt byteRows rows times bytes e sum longest table written sheet takenOf witnessOf standingOf ordersOf
+    standOrders standTaken standPoly standWitness standOf chainOf same sameRows firstPower nextPower periodFrom periodOf
+table-runs = refl
+
+pub figures : AllHold table
+figures = runs-hold table table-runs

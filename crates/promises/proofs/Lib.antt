@@ -1,0 +1,5 @@
+pub mod Found
+pub mod Calls
+pub mod Figures
+pub mod Demand2
+pub mod Demand3

@@ -1,0 +1,4 @@
+pub mod Run
+pub mod Figures
+pub mod Witness
+pub mod Additions
