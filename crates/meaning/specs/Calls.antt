@@ -1,7 +1,13 @@
 -- The calls (01, "The calls"), refused ones included: for each input, what is answered and what the lent buffers hold afterwards.
---   Answer A       a refusal with its number, or a result
---   Called q R old answer new   a call with the refusal q: refused by number, and no lent byte changes; or a result that R permits
---   InverseCall, OrderCall, ..  each call
+--   Answer A           a refusal with its number, or a result
+--   Called q R old answer new   a call with the refusal q: refused by number, and no lent byte changes; or a result that R permits. `old` and `new`
+--                      are what the lent buffers hold before and after
+--   InverseCall p a    the inverse of the scalar a
+--   OrderResult, OrderCall   the order of one row: degree returned, n + 1 coefficients written
+--   ImageCall          v·f(M): n entries written
+--   StandResult, StandCall   the stand: polynomial buffer and witness buffer
+--   ChainResult, ChainCall   the chain: product buffer and stage buffer
+--   PeriodCall         the period
 -- Assumes nothing.
 use mathlib.Core.Path.{_≡_}
 use mathlib.Core.List.{List}

@@ -1,8 +1,16 @@
 -- The refusal table (01, "Refusal numbers"): for each call the number of the first test that applies, in the table's order, or none.
---   allBelow k t     the test t passes at every number below k
---   isPrime p        p is a prime from 2 to 251
---   size n, whole, .. the tests of the table, each true where its number is due
---   first ts         the number of the first test that applies
+--   allBelow k t       the test t passes at every number below k
+--   isPrime p          p is a prime from 2 to 251
+--   every t l          the test t passes at every entry of l
+--   noPrime p          test 1
+--   noSize n           test 2: n is not 1 to 64
+--   noMatrix n m       test 3: the matrix has not n·n bytes
+--   noRows n cs        test 4: the list is not a whole number of rows, or has over 128
+--   noVector n v       test 4 of a call that takes one vector: its length is not n
+--   noPolynomial f     test 7: no coefficient or more than 65
+--   badEntry p l       test 5: an entry is p or more
+--   tooShort k out     test 6: a result buffer is shorter than k
+--   first ts           the number of the first test that applies, or none
 --   inverseRefusal, orderRefusal, imageRefusal, standRefusal, chainRefusal, periodRefusal   the refusal of each call
 -- Assumes nothing.
 use mathlib.Core.Bool.{Bool, true, false, not, _&&_, _||_}

@@ -2,10 +2,12 @@
 --   Sheet          what a figure shows; a column that 01 leaves open is none
 --   Figure         an input with its sheet
 --   asked q x      x, where the figure gives that column
---   sheet s ..     what the definitions give, in the columns of the sheet s
+--   written o      the coefficients of a polynomial up to the leading 1
+--   sheet g ..     what the definitions give, in the columns of the figure g
 --   Holds g        whatever the definitions permit for the input of g shows what g shows; and they permit something
 --   AllHold        every figure of a table holds
---   P1 .. P11, table   the figures, with 01's words for each
+--   figure, stand, chained   a figure from its columns
+--   P1, P2, P3, P4, P5, P6, P7, P8, P9, P10, P11, table   the figures, with 01's words for each
 -- Assumes nothing.
 use mathlib.Core.Path.{_≡_}
 use mathlib.Core.List.{List, [], _∷_, map}
