@@ -265,6 +265,11 @@ module _ (p n : ℕ) (m : List ℕ) (A : Sound p n m) (a : ℕ) (le : 8192 ≤ a
           all-taken = rows-paid ds few s (G .poly) (G .stand);
         }
 
+-- while it is short, a run goes on
+pub run-next : {p n : ℕ} {m cs ds : List ℕ} {a k : ℕ} {r s : Outcome} → Prime p → Run p n m a cs r k ds s → s .standing ≡ short
+    → Run p n m a cs r (suc k) (added p n ds s) (standOf p n m (added p n ds s) a)
+run-next {n} {m} {a} P R q = more _ R q (stand-found P n m _ a)
+
 pub additions-bounded : (p n : ℕ) (m cs : List ℕ) → Sound p n m → SoundRows p n cs → length cs / n ≤ 64 → (a : ℕ) → 8192 ≤ a → (r s : Outcome) (k : ℕ)
     (ds : List ℕ) → Run p n m a cs r k ds s → Added p n r k ds s
 additions-bounded p n m cs A B h a le r s k ds R = grown-added p n m A a le cs B h r k ds s (run-grown p n m A a le cs B h r R)
@@ -277,10 +282,6 @@ additions-end p n m cs A B h a le r f S = go n zero cs r (start f S) (omega arit
     bound : (s : Outcome) (k : ℕ) (ds : List ℕ) → Run p n m a cs r k ds s → Added p n r k ds s
     bound = additions-bounded p n m cs A B h a le r
 
-    next : {s : Outcome} {k : ℕ} {ds : List ℕ} → Run p n m a cs r k ds s → s .standing ≡ short
-        → Run p n m a cs r (suc k) (added p n ds s) (standOf p n m (added p n ds s) a)
-    next R q = more _ R q (stand-found (A .prime) n m _ a)
-
     ended : (s : Outcome) (k : ℕ) (ds : List ℕ) → Run p n m a cs r k ds s → (t : Standing) → s .standing ≡ t → (t ≡ short → Reached p n m a cs r)
         → Reached p n m a cs r
     ended s k ds R proved q go = record { additions = k; list = ds; last = s; run = R; reached = q; few = omega (arith, bound s k ds R) }
@@ -288,5 +289,5 @@ additions-end p n m cs A B h a le r f S = go n zero cs r (start f S) (omega arit
 
     -- j bounds the additions to come
     go : (j k : ℕ) (ds : List ℕ) (s : Outcome) → Run p n m a cs r k ds s → n ≤ r .degree + k + j → Reached p n m a cs r
-    go zero k ds s R l = ended s k ds R (s .standing) refl (λ q. absurd (omega (arith, bound _ _ _ (next R q))))
-    go (suc j) k ds s R l = ended s k ds R (s .standing) refl (λ q. go j (suc k) (added p n ds s) _ (next R q) (omega arith))
+    go zero k ds s R l = ended s k ds R (s .standing) refl (λ q. absurd (omega (arith, bound _ _ _ (run-next (A .prime) R q))))
+    go (suc j) k ds s R l = ended s k ds R (s .standing) refl (λ q. go j (suc k) (added p n ds s) _ (run-next (A .prime) R q) (omega arith))

@@ -3,3 +3,4 @@ pub mod Calls
 pub mod Figures
 pub mod Demand2
 pub mod Demand3
+pub mod Answers

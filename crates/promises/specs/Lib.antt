@@ -2,3 +2,4 @@ pub mod Run
 pub mod Figures
 pub mod Witness
 pub mod Additions
+pub mod CallRun

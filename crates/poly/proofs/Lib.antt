@@ -1,0 +1,5 @@
+pub mod Laws
+pub mod Loops
+pub mod Product
+pub mod Division
+pub mod Divisors

@@ -1,0 +1,166 @@
+-- Demands 2 and 3 of the call's answers and buffers: for any answers that the contract of the stand permits.
+--   Answered ..   what an answer says: the input is within the bounds, and the stand is that of the polynomial in the buffer
+-- Assumes nothing.
+use mathlib.Core.Path.{_≡_, refl, sym, ap, _∙_}
+use mathlib.Core.List.{List, _++_, Perm}
+use Prim.Native.Nat.{ℕ, suc, _-_, _/_, _≤_, suc-le-suc}
+use native.Mathlib.Omega.{arith}
+use lib.ListN.{length, take}
+use lib.Seq.{take-at}
+use Rattle.algebra.specs.Row.{S}
+use Rattle.algebra.specs.Poly.{Poly, coef, act, _∣_}
+use Rattle.algebra.specs.Orders.{polys, KillsEvery}
+use Rattle.algebra.proofs.Row.{below-more}
+use Rattle.algebra.proofs.Act.{act-coef}
+use Rattle.algebra.proofs.Poly.{least-resp}
+use Rattle.algebra.proofs.Gcd.{multiples-ideal}
+use Rattle.meaning.specs.Bytes.{row, times, byteRows, rows, e, bytes, write}
+use Rattle.meaning.specs.Bounds.{Sound, SoundRows}
+use Rattle.meaning.specs.Polynomial.{IsMinimal}
+use Rattle.meaning.specs.Stand.{Standing, proved, short, Tested, Outcome, IsStand, witnessRow}
+use Rattle.meaning.specs.Calls.{Answer, given, StandCall}
+use Rattle.meaning.proofs.Bytes.{bytes-length, row-bytes, polyOf-coef}
+use Rattle.meaning.proofs.Refusal.{stand-sound, sound-stand}
+use Rattle.meaning.proofs.Unique.{lcm-least, least-lcm, witness-only}
+use Rattle.meaning.proofs.Degrees.{stand-degree}
+use Rattle.promises.specs.Run.{standOf}
+use Rattle.promises.specs.Witness.{FirstUnsent}
+use Rattle.promises.specs.Additions.{added, Run, start, more, Added}
+use Rattle.promises.specs.CallRun.{Buffers, shown, LongEnough, CallRun, first, again}
+use Rattle.promises.proofs.Calls.{called-given}
+use Rattle.promises.proofs.Demand2.{proved-minimal, minimal-proved, short-witness}
+use Rattle.promises.proofs.Demand3.{more-divides, more-keeps, reordered, additions-bounded, run-next}
+
+-- the same polynomial has the same stand
+tested-resp : {p : ℕ} (X : S p → S p) (n : ℕ) (f g : Poly p) → coef f ≡ coef g → (s : Standing) (w : ℕ) → Tested X n f s w → Tested X n g s w
+tested-resp X n f g q proved w T = (λ i l h. sym (act-coef X f g q (e i)) ∙ T .0 i l h, T .1)
+tested-resp X n f g q short w T =
+    (T .0, T .1, λ K. T .2 (act-coef X f g q (e w) ∙ K), λ i l h. sym (act-coef X f g q (e i)) ∙ T .3 i l h)
+
+stand-resp : {p n : ℕ} {m cs : List ℕ} {a : ℕ} {r : Outcome} (f g : Poly p) → coef f ≡ coef g → IsStand p n m cs a r f → IsStand p n m cs a r g
+stand-resp {r} f g q A =
+    record {
+      orders = A .orders;
+      each = A .each;
+      front = A .front;
+      spent = A .spent;
+      common = least-lcm (least-resp (multiples-ideal (polys (take (r .taken) (A .orders)))) q (lcm-least (A .common)));
+      tested = tested-resp _ _ f g q (r .standing) (r .witness) (A .tested);
+    }
+
+-- what is written is read back
+written : {p : ℕ} (k : ℕ) (s : S p) (old new : List ℕ) → new ≡ write (bytes k s) old → take k new ≡ bytes k s
+unfolding write
+written k s old new q = ap (take k) q ∙ take-at (bytes k s) _ k (bytes-length k s)
+
+record Answered (p n : ℕ) (m cs : List ℕ) (a : ℕ) (r : Outcome) (new : Buffers) : Type 0 where
+  sound : Sound p n m
+  list : SoundRows p n cs
+  stand : IsStand p n m cs a r (shown p n new)
+  polynomial : take (suc n) (new .0) ≡ bytes (suc n) (coef (shown p n new))
+  image : take n (new .1) ≡ bytes n (witnessRow (times p n m) (shown p n new) (r .standing) (r .witness))
+
+answered : {p n : ℕ} {m cs : List ℕ} {a : ℕ} {old new : Buffers} {r : Outcome} → StandCall p n m cs a old (given r) new → Answered p n m cs a r new
+answered {p} {n} {m} {cs} {a} {old} {new} {r} A =
+    let (q, R) = called-given A in
+    let K = stand-sound p n m cs (old .0) (old .1) q in
+    let f = R .poly in
+    let w = written (suc n) (coef f) (old .0) (new .0) (R .polynomial) in
+    let d = stand-degree (K .0 .prime) n m cs a r f (R .stand) in
+    let c = sym (polyOf-coef p _ ∙ ap (row p) w ∙ row-bytes (suc n) (coef f) (below-more (suc-le-suc d) (R .stand .common .monic .above))) in
+    record {
+      sound = K .0;
+      list = K .1;
+      stand = stand-resp f (shown p n new) c (R .stand);
+      polynomial = w ∙ ap (bytes (suc n)) c;
+      image = written n _ (old .1) (new .1) (R .witness) ∙ ap (bytes n) (witness-only (times p n m) f (shown p n new) c (r .standing) (r .witness));
+    }
+
+-- an answered call: the input is within the bounds, and the polynomial in the buffer is the stand's
+pub answer-sound : (p n : ℕ) (m cs : List ℕ) (a : ℕ) (old new : Buffers) (r : Outcome) → StandCall p n m cs a old (given r) new → Sound p n m × SoundRows p n cs
+answer-sound p n m cs a old new r A = (answered A .sound, answered A .list)
+
+pub answer-stand : (p n : ℕ) (m cs : List ℕ) (a : ℕ) (old new : Buffers) (r : Outcome) → StandCall p n m cs a old (given r) new → IsStand p n m cs a r (shown p n new)
+answer-stand p n m cs a old new r A = answered A .stand
+
+-- demand 2: proved exactly when the polynomial in the buffer is the minimal polynomial
+pub answer-minimal : (p n : ℕ) (m cs : List ℕ) (a : ℕ) (old new : Buffers) (r : Outcome) → StandCall p n m cs a old (given r) new
+    → (r .standing ≡ proved → IsMinimal p n m (r .degree) (shown p n new)) × (KillsEvery n (times p n m) (shown p n new) → r .standing ≡ proved)
+answer-minimal p n m cs a old new r A =
+    let S = answered A .stand in
+    (proved-minimal n m cs a r (shown p n new) S, minimal-proved n m cs a r (shown p n new) S)
+
+-- else short, with the first unit row that it does not send to zero, and that row's image in the witness buffer
+pub answer-short : (p n : ℕ) (m cs : List ℕ) (a : ℕ) (old new : Buffers) (r : Outcome) → StandCall p n m cs a old (given r) new → r .standing ≡ short
+    → FirstUnsent (times p n m) n (shown p n new) (r .witness) × (take n (new .1) ≡ bytes n (act (times p n m) (shown p n new) (e (r .witness))))
+answer-short p n m cs a old new r A q = (short-witness n m cs a r (shown p n new) (answered A .stand) q, rw q at (answered A .image))
+
+-- demand 3, first sentence: more rows behind, a larger allowance, or both
+pub answer-more : (p n : ℕ) (m cs ds : List ℕ) (a b : ℕ) → a ≤ b → (old new old′ new′ : Buffers) (r s : Outcome) → StandCall p n m cs a old (given r) new
+    → StandCall p n m (cs ++ ds) b old′ (given s) new′
+    → (shown p n new ∣ shown p n new′) × (r .standing ≡ proved → (s .standing ≡ proved) × (r .degree ≡ s .degree) × (take (suc n) (new .0) ≡ take (suc n) (new′ .0)))
+answer-more p n m cs ds a b le old new old′ new′ r s A B =
+    let C = answered A in
+    let D = answered B in
+    let P = C .sound .prime in
+    let z = C .sound .some-size in
+    let f = shown p n new in
+    let g = shown p n new′ in (
+      more-divides P n z m cs ds _ (C .list .whole) a b le r s f g (C .stand) (D .stand),
+      λ q. let k = more-keeps P n z m cs ds _ (C .list .whole) a b le r s f g (C .stand) (D .stand) q in
+          (k .0, k .1, C .polynomial ∙ ap (bytes (suc n)) (k .2) ∙ sym (D .polynomial)),
+    )
+
+-- second sentence: another sequence of the rows, where all are taken
+pub answer-reordered : (p n : ℕ) (m cs ds : List ℕ) → Perm (byteRows n cs) (byteRows n ds) → (a : ℕ) (old new old′ new′ : Buffers) (r s : Outcome)
+    → StandCall p n m cs a old (given r) new → StandCall p n m ds a old′ (given s) new′ → r .taken ≡ length (rows p n cs)
+    → (s ≡ r) × (take (suc n) (new′ .0) ≡ take (suc n) (new .0)) × (take n (new′ .1) ≡ take n (new .1)) × (s .taken ≡ length (rows p n ds))
+answer-reordered p n m cs ds π a old new old′ new′ r s A B h =
+    let C = answered A in
+    let D = answered B in
+    let X = times p n m in
+    let f = shown p n new in
+    let g = shown p n new′ in
+    let (same, c, all) = reordered (C .sound .prime) n m cs ds π a r s f g (C .stand) (D .stand) h in
+    let w = witness-only X g f c (s .standing) (s .witness) ∙ ap (λ (o : Outcome). witnessRow X f (o .standing) (o .witness)) same in
+    (same, D .polynomial ∙ ap (bytes (suc n)) c ∙ sym (C .polynomial), D .image ∙ ap (bytes n) w ∙ sym (C .image), all)
+
+-- third sentence: a run of calls is a run
+call-run : {p n : ℕ} {m cs ds : List ℕ} {a k : ℕ} {r s : Outcome} → CallRun p n m a cs r k ds s → Run p n m a cs r k ds s
+call-run (first old new A) = start _ (answered A .stand)
+call-run (again old new R q A) = more _ (call-run R) q (answered A .stand)
+
+call-sound : {p n : ℕ} {m cs ds : List ℕ} {a k : ℕ} {r s : Outcome} → CallRun p n m a cs r k ds s → Sound p n m × SoundRows p n cs
+call-sound (first old new A) = (answered A .sound, answered A .list)
+call-sound (again old new R q A) = call-sound R
+
+-- each is bounded as promised
+pub calls-bounded : (p n : ℕ) (m cs : List ℕ) (a : ℕ) → length cs / n ≤ 64 → 8192 ≤ a → (r s : Outcome) (k : ℕ) (ds : List ℕ) → CallRun p n m a cs r k ds s → Added p n r k ds s
+calls-bounded p n m cs a h le r s k ds R =
+    let (A, B) = call-sound R in
+    additions-bounded p n m cs A B h a le r s k ds (call-run R)
+
+-- and after a short answer so is the next
+calls-next : (p n : ℕ) (m cs : List ℕ) (a : ℕ) → length cs / n ≤ 64 → 8192 ≤ a → (r s : Outcome) (k : ℕ) (ds : List ℕ) → CallRun p n m a cs r k ds s → s .standing ≡ short
+    → Added p n r (suc k) (added p n ds s) (standOf p n m (added p n ds s) a)
+calls-next p n m cs a h le r s k ds R q =
+    let (A, B) = call-sound R in
+    additions-bounded p n m cs A B h a le r _ _ _ (run-next (A .prime) (call-run R) q)
+
+-- a short answer can be followed by a call that is not refused, whatever the buffers hold
+pub calls-again : (p n : ℕ) (m cs : List ℕ) (a : ℕ) → length cs / n ≤ 64 → 8192 ≤ a → (r s : Outcome) (k : ℕ) (ds : List ℕ) → CallRun p n m a cs r k ds s → s .standing ≡ short
+    → (old new : Buffers) → LongEnough n old → (x : Answer Outcome) → StandCall p n m (added p n ds s) a old x new → (t : Outcome) × (x ≡ given t)
+calls-again p n m cs a h le r s k ds R q old new l x A =
+    let N = calls-next p n m cs a h le r s k ds R q in
+    let t = A .result (sound-stand p n m (added p n ds s) (old .0) (old .1) (call-sound R .0) (N .sound) (l .0) (l .1)) in
+    (t .0, t .1)
+
+-- and no run has more than n − d additions, d the first degree: so a run that goes on while the answer is short ends in proved
+pub calls-few : (p n : ℕ) (m cs : List ℕ) (a : ℕ) → length cs / n ≤ 64 → 8192 ≤ a → (r s : Outcome) (k : ℕ) (ds : List ℕ) → CallRun p n m a cs r k ds s
+    → (k ≤ n - r .degree) × (k ≡ n - r .degree → s .standing ≡ proved)
+calls-few p n m cs a h le r s k ds R =
+    (omega (arith, calls-bounded p n m cs a h le r s k ds R), λ c. go c (s .standing) refl)
+  where
+    go : k ≡ n - r .degree → (t : Standing) → s .standing ≡ t → s .standing ≡ proved
+    go c proved q = q
+    go c short q = absurd (omega (arith, calls-next p n m cs a h le r s k ds R q))

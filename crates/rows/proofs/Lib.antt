@@ -1,0 +1,4 @@
+pub mod Loops
+pub mod Laws
+pub mod FirstBad
+pub mod Powers
