@@ -6,3 +6,4 @@ pub mod Chain
 pub mod Period
 pub mod Refusal
 pub mod Calls
+pub mod Case

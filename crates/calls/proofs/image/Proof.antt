@@ -1,0 +1,87 @@
+-- `calls::image` meets its contract: where the refusal is none, the inputs are sound, and the worker writes the front of the buffer.
+-- Assumes nothing.
+use mathlib.Core.Path.{_≡_, sym, _∙_}
+use mathlib.Core.Option.{none}
+use Prim.Native.Nat.{_≤_}
+use native.Mathlib.Omega.{arith}
+use borrow.Author.Needs.{needs}
+use lib.ListN.{length}
+use lib.Seq.{length-take-le}
+use Rattle.meaning.specs.Refusal.{imageRefusal}
+use Rattle.meaning.proofs.Refusal.{image-sound}
+use Rattle.calls.proofs.Laws.{some-number, none-number, refused-by, given-by, image-written}
+use Rattle.calls.proofs.image.Statement.{statement}
+use Rattle.calls.proofs.image.Tie as tie
+
+abbrev start : tie.Else1 → tie.Start
+start c = c .before .before .before .before .before .before .before
+
+taken : (c : tie.Else1) → let x = start c .args in imageRefusal (x .p) (x .n) (x .m .now) (x .v .now) (x .f .now) (x .out .now) ≡ none
+unfolding imageRefusal
+taken c = none-number _ (omega arith) (sym (c .if1 .left) ∙ c .before .image-refusal .ensures)
+
+image-refusal-requires : tie.Need-image-refusal-requires
+image-refusal-requires c κs = search needs
+
+same-length : tie.Need-same-length
+same-length c = search needs
+
+returns : tie.Need-returns
+returns c = refused-by (some-number _ (c .before .image-refusal .ensures) (c .if1 .taken))
+
+cast-image : tie.Need-cast-image
+cast-image c = omega (arith, image-sound _ _ _ _ _ _ (taken c))
+
+slice-relend-prefix-image : tie.Need-slice-relend-prefix-image
+slice-relend-prefix-image c = omega (arith, image-sound _ _ _ _ _ _ (taken c))
+
+slice-aggregate-image : tie.Need-slice-aggregate-image
+slice-aggregate-image c =
+    let x = start (c .before) .args in
+    sym (length-take-le (x .n) (x .out .now) (image-sound _ _ _ _ _ _ (taken (c .before)) .6))
+
+image-requires : tie.Need-image-requires
+image-requires c κs =
+    let x = start (c .before) .args in
+    let S = image-sound _ _ _ _ _ _ (taken (c .before)) in
+    let v : length (x .v .now) ≡ x .n = S .1 in
+    let most : x .n ≤ 64 = S .0 .size in (
+      omega (arith, S .0 .prime .big),
+      (
+        omega arith,
+        (rw v (S .0 .matrix), ((S .2, S .3), length-take-le (x .n) (x .out .now) (S .6) ∙ sym v)),
+      ),
+    )
+
+same-length-2 : tie.Need-same-length-2
+same-length-2 c = search needs
+
+returns-2 : tie.Need-returns-2
+returns-2 c =
+    let C = c .before .before .before .before in
+    let x = start C .args in
+    given-by
+    (taken C)
+    (image-written
+    (x .p)
+    (x .n)
+    (x .m .now)
+    (x .v .now)
+    (x .f .now)
+    (x .out .now)
+    (image-sound _ _ _ _ _ _ (taken C) .1)
+    (c .before .before .image .ensures))
+
+pub image-spec : {M : Type 1} → statement M
+image-spec =
+    tie.close
+    (tie.spec
+    image-refusal-requires
+    same-length
+    returns
+    cast-image
+    slice-relend-prefix-image
+    slice-aggregate-image
+    image-requires
+    same-length-2
+    returns-2)

@@ -1,0 +1,108 @@
+-- `calls::order` meets its contract: where the refusal is none, the inputs are sound; spun over no rows, the row's relative order is its order,
+-- and its first n + 1 coefficients are put to the front of the buffer. Assumes nothing.
+use mathlib.Core.Path.{_≡_, sym, _∙_}
+use mathlib.Core.Option.{none}
+use Prim.Native.Nat.{_+_, _≤_}
+use native.Mathlib.Omega.{arith}
+use borrow.Author.Needs.{needs}
+use lib.ListN.{length, take, replicate}
+use lib.Seq.{length-take-le}
+use Rattle.meaning.specs.Refusal.{orderRefusal}
+use Rattle.meaning.proofs.Refusal.{order-sound}
+use Rattle.spin.proofs.Laws.{before-empty, spinned-order}
+use Rattle.calls.proofs.Laws.{some-number, none-number, refused-by, given-by, order-written}
+use Rattle.calls.proofs.order.Statement.{statement}
+use Rattle.calls.proofs.order.Tie as tie
+
+abbrev start : tie.Else1 → tie.Start
+start c = c .before .before .before .before .before .before
+
+taken : (c : tie.Else1) → let x = start c .args in orderRefusal (x .p) (x .n) (x .m .now) (x .v .now) (x .out .now) ≡ none
+unfolding orderRefusal
+taken c = none-number _ (omega arith) (sym (c .if1 .left) ∙ c .before .order-refusal .ensures)
+
+order-refusal-requires : tie.Need-order-refusal-requires
+order-refusal-requires c κs = search needs
+
+same-length : tie.Need-same-length
+same-length c = search needs
+
+returns : tie.Need-returns
+returns c = refused-by (some-number _ (c .before .order-refusal .ensures) (c .if1 .taken))
+
+cast-spin : tie.Need-cast-spin
+cast-spin c = omega (arith, order-sound _ _ _ _ _ (taken c))
+
+slice-aggregate-spin : tie.Need-slice-aggregate-spin
+slice-aggregate-spin c = search needs
+
+spin-requires : tie.Need-spin-requires
+spin-requires c κs =
+    let x = start (c .before) .args in
+    let S = order-sound _ _ _ _ _ (taken (c .before)) in
+    let most : x .n ≤ 64 = S .0 .size in
+    (S .0 .prime, (most, (S .0 .matrix, (S .1, before-empty (x .p) (x .n) (x .m .now) (replicate 8320 0) (omega arith)))))
+
+-- the coefficients and the buffer have n + 1 places
+room : (c : tie.After-spin) → let x = start (c .before .before) .args in
+    (x .n + 1 ≤ 65) × (x .n + 1 ≤ length (c .spin .result .poly)) × (x .n + 1 ≤ length (x .out .now))
+room c =
+    let S = order-sound _ _ _ _ _ (taken (c .before .before)) in
+    let most = S .0 .size in
+    (omega arith, omega (arith, c .spin .ensures .places), S .3)
+
+lent : (c : tie.After-spin) → let n = start (c .before .before) .args .n in length (take (n + 1) (c .spin .result .poly)) ≡ n + 1
+lent c = length-take-le (start (c .before .before) .args .n + 1) (c .spin .result .poly) (room c .1)
+
+add-count : tie.Need-add-count
+add-count c = omega (arith, room (c .before .before))
+
+array-share-prefix-coefficients : tie.Need-array-share-prefix-coefficients
+array-share-prefix-coefficients c = room (c .before .before) .1
+
+slice-aggregate-put : tie.Need-slice-aggregate-put
+slice-aggregate-put c = sym (lent (c .before .before .before))
+
+put-requires : tie.Need-put-requires
+put-requires c κs =
+    let P = c .before .before .before .before in
+    rw (lent P) (room P .2)
+
+same-length-2 : tie.Need-same-length-2
+same-length-2 c = search needs
+
+returns-2 : tie.Need-returns-2
+returns-2 c =
+    let P = c .before .before .before .before .before .before .before in
+    let C = P .before .before in
+    let x = start C .args in
+    given-by
+    (taken C)
+    (order-written
+    (x .p)
+    (x .n)
+    (x .m .now)
+    (x .v .now)
+    (P .spin .result .poly)
+    (x .out .now)
+    (spinned-order (P .spin .ensures))
+    (P .spin .ensures .small)
+    (room P .1)
+    (c .before .before .put .ensures))
+
+pub order-spec : {M : Type 1} → statement M
+order-spec =
+    tie.close
+    (tie.spec
+    order-refusal-requires
+    same-length
+    returns
+    cast-spin
+    slice-aggregate-spin
+    spin-requires
+    add-count
+    array-share-prefix-coefficients
+    slice-aggregate-put
+    put-requires
+    same-length-2
+    returns-2)

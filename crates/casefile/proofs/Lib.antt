@@ -1,0 +1,9 @@
+pub mod Run
+pub mod Records
+pub mod Place
+pub mod Ahead
+pub mod Stepping
+pub mod Tags
+pub mod Copies
+pub mod Values
+pub mod Unique

@@ -1,0 +1,69 @@
+-- `casefile::begin` meets its contract: the tests that led to each answer say which case of `letter` holds.
+-- Assumes nothing.
+use borrow.Author.Tests.{lt-ltb, le-ltb, le-leb, lt-leb, eq-eqb, ne-eqb}
+use borrow.Author.Needs.{needs}
+use Rattle.casefile.specs.Machine.{letter}
+use Rattle.casefile.proofs.begin.Statement.{statement}
+use Rattle.casefile.proofs.begin.Tie as tie
+
+returns : tie.Need-returns
+unfolding letter
+returns c = simp (eq-eqb _ 65 (c .before .if1 .taken), c .if2 .taken)
+
+returns-2 : tie.Need-returns-2
+unfolding letter
+returns-2 c = simp (eq-eqb _ 65 (c .before .if1 .taken), c .if2 .left)
+
+add-t10 : tie.Need-add-t10
+add-t10 c = search needs
+
+returns-3 : tie.Need-returns-3
+unfolding letter
+returns-3 c = simp (ne-eqb _ 65 (c .before .before .if1 .left), eq-eqb _ 82 (c .before .if3 .taken), lt-ltb _ _ (c .if4 .taken))
+
+returns-4 : tie.Need-returns-4
+unfolding letter
+returns-4 c = simp (ne-eqb _ 65 (c .before .before .if1 .left), eq-eqb _ 82 (c .before .if3 .taken), le-ltb _ _ (c .if4 .left))
+
+returns-5 : tie.Need-returns-5
+unfolding letter
+returns-5 c = simp (ne-eqb _ 65 (c .before .before .if1 .left), ne-eqb _ 82 (c .before .if3 .left), lt-leb _ _ (c .if5 .taken))
+
+add-if7 : tie.Need-add-if7
+add-if7 c = search needs
+
+add-t13 : tie.Need-add-t13
+add-t13 c = search needs
+
+returns-6 : tie.Need-returns-6
+unfolding letter
+returns-6 c = simp (ne-eqb _ 65 (c .before .before .before .before .if1 .left), ne-eqb _ 82 (c .before .before .before .if3 .left), le-leb _ _ (c .before .before .if5 .left), eq-eqb _ 67 (c .before .if6 .taken), lt-ltb _ _ (c .if7 .taken))
+
+returns-7 : tie.Need-returns-7
+unfolding letter
+returns-7 c = simp (ne-eqb _ 65 (c .before .before .before .before .if1 .left), ne-eqb _ 82 (c .before .before .before .if3 .left), le-leb _ _ (c .before .before .if5 .left), eq-eqb _ 67 (c .before .if6 .taken), le-ltb _ _ (c .if7 .left))
+
+returns-8 : tie.Need-returns-8
+unfolding letter
+returns-8 c = simp (ne-eqb _ 65 (c .before .before .before .before .if1 .left), ne-eqb _ 82 (c .before .before .before .if3 .left), le-leb _ _ (c .before .before .if5 .left), ne-eqb _ 67 (c .before .if6 .left), eq-eqb _ 69 (c .if8 .taken))
+
+returns-9 : tie.Need-returns-9
+unfolding letter
+returns-9 c = simp (ne-eqb _ 65 (c .before .before .before .before .if1 .left), ne-eqb _ 82 (c .before .before .before .if3 .left), le-leb _ _ (c .before .before .if5 .left), ne-eqb _ 67 (c .before .if6 .left), ne-eqb _ 69 (c .if8 .left))
+
+pub begin-spec : {M : Type 1} → statement M
+begin-spec =
+    tie.close
+    (tie.spec
+    returns
+    returns-2
+    add-t10
+    returns-3
+    returns-4
+    returns-5
+    add-if7
+    add-t13
+    returns-6
+    returns-7
+    returns-8
+    returns-9)

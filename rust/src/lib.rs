@@ -1,0 +1,4 @@
+//! What stands beside the proved library: an implementation of the same mathematics that shares nothing with it, for comparison.
+#![forbid(unsafe_code)]
+
+pub mod naive;
