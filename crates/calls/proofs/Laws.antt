@@ -1,35 +1,38 @@
 -- What a call answers, from the tests that it ran.
 --   applies        a test that does not fail applies
---   or-here, or-there, or-neither   one of two tests applies, or neither
 --   prime-told     test 1, from the code's prime test
+--   due-here, due-passed   the number of a test that applies, and of one that does not
+--   earlier-next, earlier-kept   of two numbers the one that is due
 --   first-here, first-next, first-end   the first test of a list applies, or does not, or there is none
 --   first-front, first-past  a number due from the front of a list is due from the whole; where none is due, the rest decides
 --   size-most      n is at most 64 where tests 1 and 2 do not apply
 --   number-some, number-none   the number of a refusal
 --   Numbered ts    no test of ts has the number 0
 --   some-number, none-number   a number other than 0 is that of a refusal, and 0 that of none
+--   number-last, number-step, due-or   the number of a list of tests, test by test
+--   inverse-number, order-number, image-number   so for each call, after tests 1 to 3
 --   refused-by, given-by   a call that is refused, and one that gives a result
 --   inverse-given  the code's inverse is the inverse
 --   front-write    a buffer whose front was written
---   image-written  so with the image
---   order-written  so with the order
+--   image-written, order-written   so with the image, and with the order
 -- Assumes nothing.
 use mathlib.Core.Path.{_≡_, refl, sym, ap, ap₂, _∙_, subst}
-use mathlib.Core.Bool.{Bool, true, false, not, _||_, or-true}
+use mathlib.Core.Bool.{Bool, true, false, not, _||_}
 use mathlib.Core.List.{List, [], _∷_, _++_}
 use mathlib.Core.Option.{Option, none, some, Option·none-ne-some}
-use Prim.Native.Nat.{ℕ, suc, _+_, _<_, _≤_}
+use Prim.Native.Nat.{ℕ, zero, suc, _+_, _<_, _≤_}
 use native.Mathlib.Nat.{lt-irrefl}
 use native.Mathlib.Numerals.{add-one}
 use native.Mathlib.Omega.{arith}
+use lib.Dec.{leb}
 use lib.ListN.{length, getD, take, drop}
 use lib.Seq.{ext-getD, getD-take, length-take-le}
 use Rattle.algebra.specs.Field.{Prime, fp, inv}
 use Rattle.algebra.proofs.Field.{val-fp}
 use Rattle.meaning.specs.Bytes.{Small, row, polyOf, bytes, write}
 use Rattle.meaning.specs.Polynomial.{image, IsOrder}
-use Rattle.meaning.specs.Refusal.{isPrime, noPrime, noSize, first}
-use Rattle.meaning.specs.Calls.{Answer, refused, given, Called, OrderResult}
+use Rattle.meaning.specs.Refusal.{isPrime, noPrime, noSize, noMatrix, noVector, noPolynomial, badEntry, tooShort, first, inverseRefusal, orderRefusal, imageRefusal}
+use Rattle.meaning.specs.Calls.{refused, given, Called, OrderResult}
 use Rattle.meaning.specs.Period.{IsInverse}
 use Rattle.meaning.proofs.Bytes.{small-at, bytes-length, bytes-at, polyOf-coef}
 use Rattle.meaning.proofs.Refusal.{noSize-false, first-none}
@@ -37,24 +40,32 @@ use Rattle.promises.specs.Run.{inverseOf}
 use Rattle.promises.proofs.Found.{inverse-found}
 use Rattle.scalar.specs.Scalar.{Is}
 use Rattle.scalar.proofs.Laws.{is-val}
-use Rattle.calls.specs.Answers.{numberOf}
+use Rattle.calls.specs.Answers.{numberOf, due, earlier}
 
 pub applies : (b : Bool) → ¬ (b ≡ false) → b ≡ true
 applies true h = refl
 applies false h = absurd (h refl)
 
-pub or-here : (a b : Bool) → a ≡ true → (a || b) ≡ true
-or-here a b e = rw e
-
-pub or-there : (a b : Bool) → b ≡ true → (a || b) ≡ true
-or-there a b e = rw e (or-true a)
-
-pub or-neither : (a b : Bool) → a ≡ false → b ≡ false → (a || b) ≡ false
-or-neither a b e h = rw (e, h)
-
-pub prime-told : {b t : Bool} (p : ℕ) → b ≡ isPrime p → not b ≡ t → noPrime p ≡ t
+pub prime-told : {b t : Bool} (p : ℕ) → b ≡ isPrime p → b ≡ t → noPrime p ≡ not t
 unfolding noPrime
-prime-told p e h = ap not (sym e) ∙ h
+prime-told p e h = ap not (sym e ∙ h)
+
+pub due-here : {k : ℕ} {b : Bool} → b ≡ true → k ≡ due k b
+unfolding due
+due-here e = rw e
+
+pub due-passed : (k : ℕ) {b : Bool} → b ≡ false → 0 ≡ due k b
+unfolding due
+due-passed k e = rw e
+
+pub earlier-next : (a b : ℕ) → a ≡ 0 → b ≡ earlier a b
+unfolding earlier
+earlier-next a b e = rw e
+
+pub earlier-kept : (a b : ℕ) → ¬ (a ≡ 0) → a ≡ earlier a b
+unfolding earlier
+earlier-kept zero b h = absurd (h refl)
+earlier-kept (suc a) b h = refl
 
 -- the tests one by one
 pub first-here : (k : ℕ) (b : Bool) (ts : List (ℕ × Bool)) → b ≡ true → first ((k, b) ∷ ts) ≡ some k
@@ -106,6 +117,45 @@ unfolding first
 none-number [] h e = refl
 none-number ((k, true) ∷ ts) h e = absurd (lt-irrefl 0 (rw (sym e) at (h .0)))
 none-number ((k, false) ∷ ts) h e = none-number ts (h .1) e
+
+-- the number of a list of tests
+pub number-last : (k : ℕ) (b : Bool) → numberOf (first ((k, b) ∷ [])) ≡ due k b
+unfolding first due
+number-last k true = refl
+number-last k false = refl
+
+pub number-step : (k : ℕ) (b : Bool) (ts : List (ℕ × Bool)) → numberOf (first ((suc k, b) ∷ ts)) ≡ earlier (due (suc k) b) (numberOf (first ts))
+unfolding first due earlier
+number-step k true ts = refl
+number-step k false ts = refl
+
+pub due-or : (k : ℕ) (a b : Bool) → due (suc k) (a || b) ≡ earlier (due (suc k) a) (due (suc k) b)
+unfolding due earlier
+due-or k true b = refl
+due-or k false b = refl
+
+pub inverse-number : (p a : ℕ) → numberOf (inverseRefusal p a) ≡ earlier (due 1 (noPrime p)) (due 5 (leb p a))
+unfolding inverseRefusal
+inverse-number p a = number-step 0 _ _ ∙ ap (earlier _) (number-last 5 _)
+
+pub order-number : (p n : ℕ) (m v out : List ℕ) → first ((1, noPrime p) ∷ (2, noSize n) ∷ (3, noMatrix n m) ∷ []) ≡ none
+    → numberOf (orderRefusal p n m v out)
+    ≡ earlier (due 4 (noVector n v)) (earlier (earlier (due 5 (badEntry p m)) (due 5 (badEntry p v))) (due 6 (tooShort (n + 1) out)))
+unfolding orderRefusal
+order-number p n m v out q =
+    ap numberOf (first-past _ _ q) ∙ number-step 3 _ _
+    ∙ ap (earlier _) (number-step 4 _ _ ∙ ap₂ earlier (due-or 4 (badEntry p m) (badEntry p v)) (number-last 6 _))
+
+pub image-number : (p n : ℕ) (m v f out : List ℕ) → first ((1, noPrime p) ∷ (2, noSize n) ∷ (3, noMatrix n m) ∷ []) ≡ none
+    → numberOf (imageRefusal p n m v f out)
+    ≡ earlier (due 4 (noVector n v)) (earlier (due 7 (noPolynomial f))
+    (earlier (earlier (due 5 (badEntry p m)) (earlier (due 5 (badEntry p v)) (due 5 (badEntry p f)))) (due 6 (tooShort n out))))
+unfolding imageRefusal
+image-number p n m v f out q =
+    ap numberOf (first-past _ _ q) ∙ number-step 3 _ _
+    ∙ ap (earlier _) (number-step 6 _ _
+    ∙ ap (earlier _) (number-step 4 _ _
+    ∙ ap₂ earlier (due-or 4 (badEntry p m) _ ∙ ap (earlier _) (due-or 4 (badEntry p v) (badEntry p f))) (number-last 6 _)))
 
 -- the whole call
 pub refused-by : {A B : Type 0} {q : Option ℕ} {R : A → B → Type 0} {old : B} {k : ℕ} → q ≡ some k → Called q R old (refused k) old

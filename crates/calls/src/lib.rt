@@ -3,11 +3,12 @@
 ghost use mathlib.Core.Path.{_≡_};
 ghost use mathlib.Core.List.{[], _∷_};
 ghost use Prim.Native.Nat.{_≤_};
+ghost use lib.Dec.{leb};
 ghost use lib.ListN.{length};
 ghost use Rattle.meaning.specs.Bytes.{write};
-ghost use Rattle.meaning.specs.Refusal.{noPrime, noSize, noMatrix, badEntry, first, orderRefusal, imageRefusal, periodRefusal};
+ghost use Rattle.meaning.specs.Refusal.{noPrime, noSize, noMatrix, noVector, noPolynomial, badEntry, tooShort, first, orderRefusal, imageRefusal, periodRefusal};
 ghost use Rattle.meaning.specs.Calls.{InverseCall, OrderCall, ImageCall, PeriodCall};
-ghost use Rattle.calls.specs.Answers.{numberOf, invertedOf, orderedOf, imagedOf, periodedOf};
+ghost use Rattle.calls.specs.Answers.{numberOf, due, earlier, invertedOf, orderedOf, imagedOf, periodedOf};
 use power::Span;
 use rows::Found;
 
@@ -32,12 +33,33 @@ pub enum Perioded {
     Refused(u8),
 }
 
+// Of the numbers of two tests, 0 for one that does not apply, the one that is due: the first is tested earlier.
+fn earlier(a: u8, b: u8) -> u8
+    ensures { λ r. ⌜ r ≡ earlier a b ⌝ }
+{
+    if a == 0 {
+        return b;
+    }
+    a
+}
+
+// Test 1.
+fn prime(p: u32) -> u8
+    ensures { λ r. ⌜ r ≡ due 1 (noPrime p) ⌝ }
+{
+    if scalar::is_prime(p) {
+        return 0;
+    }
+    1
+}
+
 // Tests 1, 2 and 3, which every call on a matrix runs first: the number of the first that applies, 0 for none.
 fn shape(p: u32, n: usize, m: &[u8]) -> u8
     ensures { λ r. ⌜ r ≡ numberOf (first ((1, noPrime p) ∷ (2, noSize n) ∷ (3, noMatrix n (now (m .entry))) ∷ [])) ⌝ }
 {
-    if !scalar::is_prime(p) {
-        return 1;
+    let bad = prime(p);
+    if bad != 0 {
+        return bad;
     }
     if n < 1 {
         return 2;
@@ -51,14 +73,57 @@ fn shape(p: u32, n: usize, m: &[u8]) -> u8
     0
 }
 
-// Test 5: whether an entry is p or more. The place is known here, and the calls ask only whether there is one.
-fn has_bad(p: u32, s: &[u8]) -> bool
-    ensures { λ r. ⌜ r ≡ badEntry p (now (s .entry)) ⌝ }
+// Test 4 of a call that takes one row.
+fn vector(n: usize, v: &[u8]) -> u8
+    ensures { λ r. ⌜ r ≡ due 4 (noVector n (now (v .entry))) ⌝ }
+{
+    if v.len() != n {
+        return 4;
+    }
+    0
+}
+
+// Test 7.
+fn polynomial(f: &[u8]) -> u8
+    ensures { λ r. ⌜ r ≡ due 7 (noPolynomial (now (f .entry))) ⌝ }
+{
+    if f.len() < 1 {
+        return 7;
+    }
+    if 65 < f.len() {
+        return 7;
+    }
+    0
+}
+
+// Test 5 of a scalar.
+fn bound(p: u32, a: u32) -> u8
+    ensures { λ r. ⌜ r ≡ due 5 (leb p a) ⌝ }
+{
+    if p <= a {
+        return 5;
+    }
+    0
+}
+
+// Test 5 of entries. The place of the first that is p or more is known here, and the calls give only the number.
+fn entries(p: u32, s: &[u8]) -> u8
+    ensures { λ r. ⌜ r ≡ due 5 (badEntry p (now (s .entry))) ⌝ }
 {
     match rows::first_bad(p, s) {
-        Found::At(_) => true,
-        Found::Nothing => false,
+        Found::At(_) => 5,
+        Found::Nothing => 0,
     }
+}
+
+// Test 6 of one buffer that is to hold k bytes.
+fn room(k: usize, out: &[u8]) -> u8
+    ensures { λ r. ⌜ r ≡ due 6 (tooShort k (now (out .entry))) ⌝ }
+{
+    if out.len() < k {
+        return 6;
+    }
+    0
 }
 
 // The bytes of `from` at the front of a buffer.
@@ -74,11 +139,11 @@ fn put(from: &[u8], out: &mut [u8])
 pub fn inverse(p: u32, a: u32) -> Inverted
     ensures { λ r. ⌜ InverseCall p a (invertedOf r) ⌝ }
 {
-    if !scalar::is_prime(p) {
-        return Inverted::Refused(1);
-    }
-    if p <= a {
-        return Inverted::Refused(5);
+    let field = prime(p);
+    let large = bound(p, a);
+    let bad = earlier(field, large);
+    if bad != 0 {
+        return Inverted::Refused(bad);
     }
     Inverted::Inverse(scalar::inverse(p as u8, a as u8))
 }
@@ -91,19 +156,10 @@ fn order_refusal(p: u32, n: usize, m: &[u8], v: &[u8], out: &[u8]) -> u8
     if bad != 0 {
         return bad;
     }
-    if v.len() != n {
-        return 4;
-    }
-    if has_bad(p, m) {
-        return 5;
-    }
-    if has_bad(p, v) {
-        return 5;
-    }
-    if out.len() < n + 1 {
-        return 6;
-    }
-    0
+    let length = vector(n, v);
+    let entry = earlier(entries(p, m), entries(p, v));
+    let short = room(n + 1, out);
+    earlier(length, earlier(entry, short))
 }
 
 // The order of one row: the monic polynomial of least degree that sends it to zero, its n + 1 coefficients at the front of `out`.
@@ -114,6 +170,7 @@ pub fn order(p: u32, n: usize, m: &[u8], v: &[u8], out: &mut [u8]) -> Ordered
     if bad != 0 {
         return Ordered::Refused(bad);
     }
+    // 64 slots of 130 bytes
     let mut kept_rows = [0u8; 8320];
     let spun = spin::spin(p as u8, n, m, v, &mut kept_rows, 0);
     let coefficients = spun.poly;
@@ -130,28 +187,11 @@ fn image_refusal(p: u32, n: usize, m: &[u8], v: &[u8], f: &[u8], out: &[u8]) -> 
     if bad != 0 {
         return bad;
     }
-    if v.len() != n {
-        return 4;
-    }
-    if f.len() < 1 {
-        return 7;
-    }
-    if 65 < f.len() {
-        return 7;
-    }
-    if has_bad(p, m) {
-        return 5;
-    }
-    if has_bad(p, v) {
-        return 5;
-    }
-    if has_bad(p, f) {
-        return 5;
-    }
-    if out.len() < n {
-        return 6;
-    }
-    0
+    let length = vector(n, v);
+    let degree = polynomial(f);
+    let entry = earlier(entries(p, m), earlier(entries(p, v), entries(p, f)));
+    let short = room(n, out);
+    earlier(length, earlier(degree, earlier(entry, short)))
 }
 
 // v·f(M), its n entries at the front of `out`.
@@ -174,10 +214,7 @@ fn period_refusal(p: u32, n: usize, m: &[u8]) -> u8
     if bad != 0 {
         return bad;
     }
-    if has_bad(p, m) {
-        return 5;
-    }
-    0
+    entries(p, m)
 }
 
 // The least t from 1 to 65,536 with the t-th power of M equal to the identity, or that there is none.

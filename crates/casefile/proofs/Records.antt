@@ -38,25 +38,6 @@ pub data Takes : State → List Record → State → Type 0 where
   stays : {q : State} → Takes q [] q
   takes : {q y z : State} {x : Record} {xs : List Record} → Fits q x y → Takes y xs z → Takes q (x ∷ xs) z
 
--- only where the case begins, and behind a record other than E, a record can follow
-abbrev pub Open : State → Type 0
-Open Start = Unit {0}
-Open Opening = ⊥
-Open Modulus = ⊥
-Open (Size p) = ⊥
-Open (Body p n m fresh) = Unit {0}
-Open (Letter p n m fresh) = ⊥
-Open (Entries p n m bound left) = ⊥
-Open (Over p n m) = ⊥
-Open Dead = ⊥
-
-pub fits-open : {q z : State} {x : Record} → Fits q x z → Open q
-fits-open (fits-field P h k) = tt
-fits-open (fits-allow h k) = tt
-fits-open (fits-row h e s) = tt
-fits-open (fits-candidate h k e s) = tt
-fits-open (fits-end h) = tt
-
 pub takes-append : {q y z : State} {xs ys : List Record} → Takes q xs y → Takes y ys z → Takes q (xs ++ ys) z
 takes-append stays u = u
 takes-append (takes f t) u = takes f (takes-append t u)
@@ -158,7 +139,6 @@ case-takes c w =
 -- and no other list of records does
 pub over-takes : {p n m : ℕ} {z : State} {xs : List Record} → Takes (Over p n m) xs z → xs ≡ []
 over-takes stays = refl
-over-takes (takes f t) = absurd (fits-open f)
 
 record CandidatePart (p n m : ℕ) (xs : List Record) : Type 0 where
   listed : List (List ℕ)

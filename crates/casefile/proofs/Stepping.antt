@@ -154,7 +154,7 @@ stepOf at e end = step.End
 pub some-same : {A : Type 0} {x y : A} → some x ≡ some y → x ≡ y
 some-same e = cc
 
-none-some : {A : Type 0} {x : A} → _≡_ {A = Option A} none (some x) → ⊥
+pub none-some : {A : Type 0} {x : A} → _≡_ {A = Option A} none (some x) → ⊥
 none-some e = let z : _≡_ {A = ℕ} 0 1 = cc in omega arith
 
 step-known : (s : List ℕ) (at e : ℕ) (a : Step) (x : Record) → recordOf s a ≡ some x → Stretch at e a → a ≡ stepOf at e x

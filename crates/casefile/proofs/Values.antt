@@ -221,5 +221,6 @@ read-case {s} {m} {cs} {p = p} {n = n} {count = count} {a = a} {from = from} v h
     reads c (v .is) (record { matrix = omega (arith, matrix-length v); candidates = omega (arith, candidates-length v) })
     (four (v .modulus) (v .order) (b ∙ l .allowance) (sym (values-few v))) (e ∙ ap (λ t. write t m) x) (g ∙ ap (λ t. write t cs) y)
   where
-    four : {p n a k q o b l : ℕ} → p ≡ q → n ≡ o → a ≡ b → k ≡ l → answer.Case p n a k ≡ answer.Case q o b l
-    four e f g h = cc
+    four : {p n a k q o b l : ℕ} → p ≡ q → n ≡ o → a ≡ b → k ≡ l
+        → _≡_ {A = Option (ℕ × ℕ × ℕ × ℕ)} (some (p, n, a, k)) (some (q, o, b, l))
+    four e f g h = λ i. some (e i, f i, g i, h i)

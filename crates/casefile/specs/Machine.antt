@@ -1,12 +1,14 @@
 -- How the code goes over a case file: a machine on bytes, whose state is what the rest of the file depends on. Nobody need believe it: proofs/ shows that
 -- it finds what `Step` and `Reading` ask for.
+--   pick t a b       a where the test t passes, else b
 --   only t q         the state q where the test t passes, else Dead
 --   sized, letter, entered   the state behind n, behind a letter, behind an entry
 --   after q b        the state behind one more byte
 --   run q t          the state behind the bytes t
---   Good q           q is not Dead, and its numbers are in 01's ranges
+--   Good q           q is not Dead, and its p, n, bound and count of entries to come are above 0
 --   Reached s i q    the first i bytes of s lead to the good state q
 --   ScanIs s from to at q   a scan from `from` on got to `at` in the state q: to `to`, or as far as s begins a case
+--   nowhere at t     no record begins here: the offset lies behind all bytes
 --   fieldAt, bodyAt, recordAt   the record that begins at an offset, by its letter, from the bytes there, with the offset behind it
 --   gathered n k t   the entries of k records of n entries that t begins with
 --   rowsAt s         where the records behind F and A begin in the case s

@@ -12,6 +12,9 @@ ghost use Rattle.casefile.specs.Reading.{ReadIs};
 ghost use Rattle.casefile.specs.Machine.{sized, letter, entered, after, Reached, ScanIs, fieldAt, bodyAt, recordAt, gathered, rowsAt, allowanceAt};
 use scalar::is_prime;
 
+// The first byte of each record.
+const MARK: u8 = 255;
+
 // What a step says.
 pub enum Step {
     // The F record: p and n.
@@ -52,12 +55,14 @@ pub enum Reading {
 }
 
 // What the rest of a file depends on, between two bytes. `count` is of rows and candidates together, that of the record under way included; `fresh`
-// says that an A record may still come; `left` is how many entries are still to come.
+// says that an A record may still come.
 enum State {
+    // The mark of F is next, its letter, p, n.
     Start,
     Opening,
     Modulus,
     Size(u8),
+    // The mark of a record behind F is next, its letter, one of `left` entries below `bound`.
     Body {
         p: u8,
         n: u8,
@@ -77,11 +82,13 @@ enum State {
         bound: u8,
         left: u8,
     },
+    // E was the last record: nothing may follow.
     Over {
         p: u8,
         n: u8,
         count: u32,
     },
+    // No well-formed case begins so.
     Dead,
 }
 
@@ -114,7 +121,7 @@ fn begin(p: u8, n: u8, count: u32, fresh: bool, b: u8) -> State
     ensures { λ r. ⌜ r ≡ letter p n count fresh b ⌝ }
 {
     let rows = n as u32;
-    if b == 65 {
+    if b == b'A' {
         if fresh {
             return State::Entries {
                 p,
@@ -126,7 +133,7 @@ fn begin(p: u8, n: u8, count: u32, fresh: bool, b: u8) -> State
         }
         return State::Dead;
     }
-    if b == 82 {
+    if b == b'R' {
         if count < rows {
             return State::Entries {
                 p,
@@ -138,10 +145,11 @@ fn begin(p: u8, n: u8, count: u32, fresh: bool, b: u8) -> State
         }
         return State::Dead;
     }
-    if count < rows {
+    // C and E come behind the last R
+    if rows > count {
         return State::Dead;
     }
-    if b == 67 {
+    if b == b'C' {
         if count < rows + 128 {
             return State::Entries {
                 p,
@@ -153,7 +161,7 @@ fn begin(p: u8, n: u8, count: u32, fresh: bool, b: u8) -> State
         }
         return State::Dead;
     }
-    if b == 69 {
+    if b == b'E' {
         return State::Over { p, n, count };
     }
     State::Dead
@@ -189,13 +197,19 @@ fn behind(q: State, b: u8) -> State
 {
     match q {
         State::Start => {
-            if b == 255 {
+            if b == MARK {
                 State::Opening
             } else {
                 State::Dead
             }
         }
-        State::Opening => { if b == 70 { State::Modulus } else { State::Dead } }
+        State::Opening => {
+            if b == b'F' {
+                State::Modulus
+            } else {
+                State::Dead
+            }
+        }
         State::Modulus => {
             if is_prime(b as u32) {
                 State::Size(b)
@@ -205,7 +219,7 @@ fn behind(q: State, b: u8) -> State
         }
         State::Size(p) => size(p, b),
         State::Body { p, n, count, fresh } => {
-            if b == 255 {
+            if b == MARK {
                 State::Letter { p, n, count, fresh }
             } else {
                 State::Dead
@@ -283,13 +297,13 @@ fn peek_body(s: &[u8], at: usize, n: u8) -> Stepped
         };
     }
     let b = s[at + 1];
-    if b == 69 {
+    if b == b'E' {
         return Stepped {
             step: Step::End,
             next: at + 2,
         };
     }
-    if b == 65 {
+    if b == b'A' {
         if rest < 4 {
             return Stepped {
                 step: Step::Over,
@@ -305,7 +319,7 @@ fn peek_body(s: &[u8], at: usize, n: u8) -> Stepped
         };
     }
     let next = at + 2 + n as usize;
-    if b == 82 {
+    if b == b'R' {
         return Stepped {
             step: Step::Row {
                 start: at + 2,
@@ -343,8 +357,8 @@ fn peek(s: &[u8], at: usize, q: State) -> Stepped
     }
 }
 
-// The step at any offset. The state at an offset is not kept, so the bytes in front of it are scanned again: a step takes time in proportion to where the
-// record ends.
+// The step at any offset; where no run of steps leads to the offset it is refused, with the place of s. The state at an offset is not kept, so the bytes in
+// front of it are scanned again: a step takes time in proportion to the offset behind its record.
 pub fn step_at(s: &[u8], at: usize) -> Stepped
     ensures { λ r. ⌜ StepIs (now (s .entry)) at r ⌝ }
 {
@@ -420,22 +434,25 @@ fn rows_at(s: &[u8]) -> usize
     requires { ⌜ 5 < length (now s) ⌝ }
     ensures { λ r. ⌜ r ≡ rowsAt (now (s .entry)) ⌝ }
 {
-    if s[5] == 65 { 8 } else { 4 }
+    if s[5] == b'A' { 8 } else { 4 }
 }
+
+// The allowance without an A record.
+const DEFAULT_ALLOWANCE: u32 = 8192;
 
 // The allowance of a case: that of its A record, or the default.
 fn allowance(s: &[u8]) -> u32
     requires { ⌜ 7 < length (now s) ⌝ }
     ensures { λ r. ⌜ r ≡ allowanceAt (now (s .entry)) ⌝ }
 {
-    if s[5] == 65 {
+    if s[5] == b'A' {
         return 128 * (s[6] as u32) + s[7] as u32;
     }
-    8192
+    DEFAULT_ALLOWANCE
 }
 
-// A whole file taken to its values: the matrix goes row after row to the front of `m`, the candidates to that of `cs`. One scan of the bytes, and where they
-// are a case one copy.
+// A whole file taken to its values: the matrix goes row after row to the front of `m`, n·n bytes, the candidates to that of `cs`, n bytes each. The sizes are
+// known of a case only, so number 8 comes before number 6. One scan of the bytes, and where they are a case one copy.
 pub fn read(s: &[u8], m: &mut [u8], cs: &mut [u8]) -> Reading
     ensures { λ r. ⌜ ReadIs (now (s .entry)) (now (m .entry)) (now (cs .entry)) r (now (m .exit)) (now (cs .exit)) ⌝ }
 {
