@@ -14,7 +14,8 @@
 --   refused-by, given-by   a call that is refused, and one that gives a result
 --   inverse-given  the code's inverse is the inverse
 --   front-write    a buffer whose front was written
---   image-written, order-written   so with the image, and with the order
+--   front-bytes    the front of bytes below p, as the bytes of their row
+--   image-written, order-written   a buffer with the image, and with the order, at its front
 -- Assumes nothing.
 use mathlib.Core.Path.{_≡_, refl, sym, ap, ap₂, _∙_, subst}
 use mathlib.Core.Bool.{Bool, true, false, not, _||_}
@@ -178,7 +179,7 @@ inverse-given {p} a P h A = subst (λ x. IsInverse p a x) (sym (is-val A)) (inve
 -- the first n bytes of a buffer are new
 pub front-write : {n : ℕ} {part new : List ℕ} (old : List ℕ) → part ≡ new → length new ≡ n → part ++ drop n old ≡ write new old
 unfolding write
-front-write {new} old e q = ap₂ (λ l k. l ++ drop k old) e (sym q)
+front-write old e q = ap₂ (λ l k. l ++ drop k old) e (sym q)
 
 pub image-written : {part : List ℕ} (p n : ℕ) (m v f old : List ℕ) → length v ≡ n
     → part ≡ bytes (length v) (image p (length v) m (polyOf p f) (row p v))
@@ -186,7 +187,6 @@ pub image-written : {part : List ℕ} (p n : ℕ) (m v f old : List ℕ) → len
 image-written p n m v f old q e =
     front-write old (e ∙ ap (λ k. bytes k (image p k m (polyOf p f) (row p v))) q) (bytes-length n _)
 
--- the front of bytes below p, and so the coefficients of an order
 front-bytes : (p k : ℕ) (l : List ℕ) → Small p l → k ≤ length l → take k l ≡ bytes k (row p l)
 unfolding row
 front-bytes p k l s h =

@@ -5,7 +5,7 @@ use mathlib.Core.Option.{none}
 use Prim.Native.Nat.{_+_, _≤_}
 use native.Mathlib.Omega.{arith}
 use borrow.Author.Needs.{needs}
-use lib.ListN.{length, take, replicate}
+use lib.ListN.{length, replicate, length-take}
 use lib.Seq.{length-take-le}
 use Rattle.meaning.specs.Refusal.{orderRefusal}
 use Rattle.meaning.proofs.Refusal.{order-sound}
@@ -51,22 +51,17 @@ room c =
     let most = S .0 .size in
     (omega arith, omega (arith, c .spin .ensures .places), S .3)
 
-lent : (c : tie.After-spin) → let n = start (c .before .before) .args .n in length (take (n + 1) (c .spin .result .poly)) ≡ n + 1
-lent c = length-take-le (start (c .before .before) .args .n + 1) (c .spin .result .poly) (room c .1)
-
 add-count : tie.Need-add-count
 add-count c = omega (arith, room (c .before .before))
 
 array-share-prefix-coefficients : tie.Need-array-share-prefix-coefficients
-array-share-prefix-coefficients c = room (c .before .before) .1
+array-share-prefix-coefficients c = omega (arith, room (c .before .before))
 
 slice-aggregate-put : tie.Need-slice-aggregate-put
-slice-aggregate-put c = sym (lent (c .before .before .before))
+slice-aggregate-put c = sym (length-take-le _ _ (omega (arith, room (c .before .before .before))))
 
 put-requires : tie.Need-put-requires
-put-requires c κs =
-    let P = c .before .before .before .before in
-    rw (lent P) (room P .2)
+put-requires c κs = simp length-take (omega (arith, room (c .before .before .before .before)))
 
 same-length-2 : tie.Need-same-length-2
 same-length-2 c = search needs

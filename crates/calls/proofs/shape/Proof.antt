@@ -18,7 +18,7 @@ prime : (c : tie.Else1) → first ((1, noPrime (c .before .before .before .args 
 prime c = none-number _ (omega arith) (sym (c .if1 .left) ∙ c .before .prime .ensures ∙ sym (number-last 1 _))
 
 size : (c : tie.Else3) → noSize (c .before .before .before .before .before .args .n) ≡ false
-size c = size-noSize _ (c .before .if2 .left) (c .if3 .left)
+size c = size-noSize _ (omega arith) (omega arith)
 
 prime-requires : tie.Need-prime-requires
 prime-requires c κs = search needs
