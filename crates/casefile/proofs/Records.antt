@@ -21,6 +21,7 @@ use Rattle.meaning.specs.Bytes.{Small}
 use Rattle.meaning.specs.Refusal.{isPrime, allBelow}
 use Rattle.meaning.specs.Case.{Record, recordBytes, flat, Case, records, allowRecord, RowsOf, Halves, WellFormed}
 use Rattle.meaning.specs.Case.Record.{field, allow, row, candidate, end}
+use Rattle.meaning.proofs.Bytes.{zeros-small}
 use Rattle.casefile.specs.declared.State.{State}
 use Rattle.casefile.specs.declared.State.the-variants.{Start, Opening, Modulus, Size, Body, Letter, Entries, Over, Dead}
 use Rattle.casefile.specs.Machine.{only, sized, letter, entered, after, run, Good}
@@ -378,10 +379,6 @@ pub parse : (z : State) → Whole z → (t : List ℕ) → run Start t ≡ z →
 parse z w t e = parse-from z w Start t tt e
 
 -- every good state leads to Over
-zeros-small : (p k : ℕ) → 0 < p → Small p (replicate k 0)
-zeros-small p zero h = tt
-zeros-small p (suc k) h = (h, zeros-small p k h)
-
 record Finish (p n m : ℕ) (fresh : Bool) : Type 0 where
   count : ℕ
   listed : List Record
