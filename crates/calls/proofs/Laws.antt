@@ -1,162 +1,45 @@
--- What a call answers, from the tests that it ran.
---   applies        a test that does not fail applies
---   prime-told     test 1, from the code's prime test
---   due-here, due-passed   the number of a test that applies, and of one that does not
---   earlier-next, earlier-kept   of two numbers the one that is due
---   first-here, first-next, first-end   the first test of a list applies, or does not, or there is none
---   first-front, first-past  a number due from the front of a list is due from the whole; where none is due, the rest decides
---   size-most      n is at most 64 where tests 1 and 2 do not apply
---   number-some, number-none   the number of a refusal
---   Numbered ts    no test of ts has the number 0
---   some-number, none-number   a number other than 0 is that of a refusal, and 0 that of none
---   number-last, number-step, due-or   the number of a list of tests, test by test
---   inverse-number, order-number, image-number   so for each call, after tests 1 to 3
+-- What a call answers and writes, from what was found.
 --   refused-by, given-by   a call that is refused, and one that gives a result
 --   inverse-given  the code's inverse is the inverse
 --   front-write    a buffer whose front was written
---   front-bytes    the front of bytes below p, as the bytes of their row
+--   front-bytes, coefficient-bytes   the front of bytes below p, as the bytes of their row or of their polynomial's coefficients
 --   image-written, order-written   a buffer with the image, and with the order, at its front
+--   taken-common   the least polynomial that sends the taken rows to zero is the lcm of their orders
+--   tested-within  the witness is one of the n unit rows
+--   standing-proved, standing-short   the standing by the witness
+--   stand-written  the stand's two buffers
+--   padded-front   a record with fewer zeros behind it
+--   chain-written  the chain's two buffers
 -- Assumes nothing.
-use mathlib.Core.Path.{_≡_, refl, sym, ap, ap₂, _∙_, subst}
-use mathlib.Core.Bool.{Bool, true, false, not, _||_}
+use mathlib.Core.Path.{_≡_, refl, sym, ap, ap₂, _∙_, subst, subst₂}
 use mathlib.Core.List.{List, [], _∷_, _++_}
 use mathlib.Core.Option.{Option, none, some, Option·none-ne-some}
-use Prim.Native.Nat.{ℕ, zero, suc, _+_, _<_, _≤_}
-use native.Mathlib.Nat.{lt-irrefl}
+use Prim.Native.Nat.{ℕ, zero, suc, _+_, _*_, _<_, _≤_}
+use native.Mathlib.Nat.{sub-zero, suc-sub-suc}
 use native.Mathlib.Numerals.{add-one}
 use native.Mathlib.Omega.{arith}
-use lib.Dec.{leb}
-use lib.ListN.{length, getD, take, drop}
+use lib.ListN.{length, getD, take, drop, replicate}
 use lib.Seq.{ext-getD, getD-take, length-take-le}
 use Rattle.algebra.specs.Field.{Prime, fp, inv}
+use Rattle.algebra.specs.Row.{S}
+use Rattle.algebra.specs.Poly.{Poly, coef, Least}
+use Rattle.algebra.specs.Orders.{Order, Orders, polys, KillsAll, product}
 use Rattle.algebra.proofs.Field.{val-fp}
-use Rattle.meaning.specs.Bytes.{Small, row, polyOf, bytes, write}
-use Rattle.meaning.specs.Polynomial.{image, IsOrder}
-use Rattle.meaning.specs.Refusal.{isPrime, noPrime, noSize, noMatrix, noVector, noPolynomial, badEntry, tooShort, first, inverseRefusal, orderRefusal, imageRefusal}
-use Rattle.meaning.specs.Calls.{refused, given, Called, OrderResult}
+use Rattle.algebra.proofs.Poly.{least-same}
+use Rattle.algebra.proofs.Orders.{multiples-kill, kills-multiples}
+use Rattle.meaning.specs.Bytes.{Small, row, polyOf, rows, times, bytes, write, padded}
+use Rattle.meaning.specs.Polynomial.{image, IsOrder, IsLcm}
+use Rattle.meaning.specs.Stand.{sum, degs, Front, proved, short, Tested, Outcome, witnessRow}
+use Rattle.meaning.specs.Chain.{IsChain, stageBytes}
+use Rattle.meaning.specs.Calls.{refused, given, Called, OrderResult, StandResult, ChainResult}
 use Rattle.meaning.specs.Period.{IsInverse}
-use Rattle.meaning.proofs.Bytes.{small-at, bytes-length, bytes-at, polyOf-coef}
-use Rattle.meaning.proofs.Refusal.{noSize-false, first-none}
-use Rattle.promises.specs.Run.{inverseOf}
-use Rattle.promises.proofs.Found.{inverse-found}
+use Rattle.meaning.proofs.Bytes.{small-at, bytes-length, bytes-at, polyOf-coef, times-machine, times-linear, rows-below}
+use Rattle.meaning.proofs.Unique.{least-lcm}
+use Rattle.meaning.proofs.Degrees.{orders-take, chain-record}
+use Rattle.promises.specs.Run.{inverseOf, standingOf, standOrders}
+use Rattle.promises.proofs.Found.{inverse-found, ordersOf-orders}
 use Rattle.scalar.specs.Scalar.{Is}
 use Rattle.scalar.proofs.Laws.{is-val}
-use Rattle.calls.specs.Answers.{numberOf, due, earlier}
-
-pub applies : (b : Bool) → ¬ (b ≡ false) → b ≡ true
-applies true h = refl
-applies false h = absurd (h refl)
-
-pub prime-told : {b t : Bool} (p : ℕ) → b ≡ isPrime p → b ≡ t → noPrime p ≡ not t
-unfolding noPrime
-prime-told p e h = ap not (sym e ∙ h)
-
-pub due-here : {k : ℕ} {b : Bool} → b ≡ true → k ≡ due k b
-unfolding due
-due-here e = rw e
-
-pub due-passed : (k : ℕ) {b : Bool} → b ≡ false → 0 ≡ due k b
-unfolding due
-due-passed k e = rw e
-
-pub earlier-next : (a b : ℕ) → a ≡ 0 → b ≡ earlier a b
-unfolding earlier
-earlier-next a b e = rw e
-
-pub earlier-kept : (a b : ℕ) → ¬ (a ≡ 0) → a ≡ earlier a b
-unfolding earlier
-earlier-kept zero b h = absurd (h refl)
-earlier-kept (suc a) b h = refl
-
--- the tests one by one
-pub first-here : (k : ℕ) (b : Bool) (ts : List (ℕ × Bool)) → b ≡ true → first ((k, b) ∷ ts) ≡ some k
-unfolding first
-first-here k b ts e = rw e
-
-pub first-next : (k : ℕ) (b : Bool) (ts : List (ℕ × Bool)) → b ≡ false → first ((k, b) ∷ ts) ≡ first ts
-unfolding first
-first-next k b ts e = rw e
-
-pub first-end : first [] ≡ none
-unfolding first
-first-end = refl
-
--- the tests in two parts
-pub first-front : {k : ℕ} (ts us : List (ℕ × Bool)) → first ts ≡ some k → first (ts ++ us) ≡ some k
-unfolding first
-first-front {k} [] us e = absurd (Option·none-ne-some k e)
-first-front ((j, true) ∷ ts) us e = e
-first-front ((j, false) ∷ ts) us e = first-front ts us e
-
-pub first-past : (ts us : List (ℕ × Bool)) → first ts ≡ none → first (ts ++ us) ≡ first us
-unfolding first
-first-past [] us e = refl
-first-past ((j, true) ∷ ts) us e = absurd (Option·none-ne-some j (sym e))
-first-past ((j, false) ∷ ts) us e = first-past ts us e
-
--- n is small where test 2 does not apply
-pub size-most : (p n : ℕ) (ts : List (ℕ × Bool)) → first ((1, noPrime p) ∷ (2, noSize n) ∷ ts) ≡ none → n ≤ 64
-size-most p n ts q = noSize-false n (first-none _ _ _ (first-none _ _ _ q .1) .0) .1
-
--- numbers, 0 for none
-pub number-some : {k : ℕ} (q : Option ℕ) → q ≡ some k → k ≡ numberOf q
-number-some q e = rw e
-
-pub number-none : (q : Option ℕ) → q ≡ none → 0 ≡ numberOf q
-number-none q e = rw e
-
-pub some-number : {k : ℕ} (q : Option ℕ) → k ≡ numberOf q → ¬ (k ≡ 0) → q ≡ some k
-some-number none e h = absurd (h e)
-some-number (some j) e h = ap some (sym e)
-
-abbrev pub Numbered : List (ℕ × Bool) → Type 0
-Numbered [] = Unit {0}
-Numbered (t ∷ ts) = (0 < t .0) × Numbered ts
-
-pub none-number : (ts : List (ℕ × Bool)) → Numbered ts → 0 ≡ numberOf (first ts) → first ts ≡ none
-unfolding first
-none-number [] h e = refl
-none-number ((k, true) ∷ ts) h e = absurd (lt-irrefl 0 (rw (sym e) at (h .0)))
-none-number ((k, false) ∷ ts) h e = none-number ts (h .1) e
-
--- the number of a list of tests
-pub number-last : (k : ℕ) (b : Bool) → numberOf (first ((k, b) ∷ [])) ≡ due k b
-unfolding first due
-number-last k true = refl
-number-last k false = refl
-
-pub number-step : (k : ℕ) (b : Bool) (ts : List (ℕ × Bool)) → numberOf (first ((suc k, b) ∷ ts)) ≡ earlier (due (suc k) b) (numberOf (first ts))
-unfolding first due earlier
-number-step k true ts = refl
-number-step k false ts = refl
-
-pub due-or : (k : ℕ) (a b : Bool) → due (suc k) (a || b) ≡ earlier (due (suc k) a) (due (suc k) b)
-unfolding due earlier
-due-or k true b = refl
-due-or k false b = refl
-
-pub inverse-number : (p a : ℕ) → numberOf (inverseRefusal p a) ≡ earlier (due 1 (noPrime p)) (due 5 (leb p a))
-unfolding inverseRefusal
-inverse-number p a = number-step 0 _ _ ∙ ap (earlier _) (number-last 5 _)
-
-pub order-number : (p n : ℕ) (m v out : List ℕ) → first ((1, noPrime p) ∷ (2, noSize n) ∷ (3, noMatrix n m) ∷ []) ≡ none
-    → numberOf (orderRefusal p n m v out)
-    ≡ earlier (due 4 (noVector n v)) (earlier (earlier (due 5 (badEntry p m)) (due 5 (badEntry p v))) (due 6 (tooShort (n + 1) out)))
-unfolding orderRefusal
-order-number p n m v out q =
-    ap numberOf (first-past _ _ q) ∙ number-step 3 _ _
-    ∙ ap (earlier _) (number-step 4 _ _ ∙ ap₂ earlier (due-or 4 (badEntry p m) (badEntry p v)) (number-last 6 _))
-
-pub image-number : (p n : ℕ) (m v f out : List ℕ) → first ((1, noPrime p) ∷ (2, noSize n) ∷ (3, noMatrix n m) ∷ []) ≡ none
-    → numberOf (imageRefusal p n m v f out)
-    ≡ earlier (due 4 (noVector n v)) (earlier (due 7 (noPolynomial f))
-    (earlier (earlier (due 5 (badEntry p m)) (earlier (due 5 (badEntry p v)) (due 5 (badEntry p f)))) (due 6 (tooShort n out))))
-unfolding imageRefusal
-image-number p n m v f out q =
-    ap numberOf (first-past _ _ q) ∙ number-step 3 _ _
-    ∙ ap (earlier _) (number-step 6 _ _
-    ∙ ap (earlier _) (number-step 4 _ _
-    ∙ ap₂ earlier (due-or 4 (badEntry p m) _ ∙ ap (earlier _) (due-or 4 (badEntry p v) (badEntry p f))) (number-last 6 _)))
 
 -- the whole call
 pub refused-by : {A B : Type 0} {q : Option ℕ} {R : A → B → Type 0} {old : B} {k : ℕ} → q ≡ some k → Called q R old (refused k) old
@@ -197,10 +80,79 @@ front-bytes p k l s h =
     long : length (take k l) ≡ k
     long = length-take-le k l h
 
+coefficient-bytes : (p n : ℕ) (c : List ℕ) → Small p c → n + 1 ≤ length c → take (n + 1) c ≡ bytes (suc n) (coef (polyOf p c))
+coefficient-bytes p n c s h = front-bytes p (n + 1) c s h ∙ ap₂ bytes (add-one n) (sym (polyOf-coef p c))
+
 pub order-written : {d : ℕ} {new : List ℕ} (p n : ℕ) (m v c old : List ℕ) → IsOrder p n m (row p v) d (polyOf p c) → Small p c → n + 1 ≤ length c
     → new ≡ write (take (n + 1) c) old → OrderResult p n m v old d new
 order-written p n m v c old A s h e = record {
   poly = polyOf p c;
   order = A;
-  buffer = e ∙ ap (λ l. write l old) (front-bytes p (n + 1) c s h ∙ ap₂ bytes (add-one n) (sym (polyOf-coef p c)));
+  buffer = e ∙ ap (λ l. write l old) (coefficient-bytes p n c s h);
+}
+
+-- the lcm of the orders of the taken rows
+taken-common : {p d : ℕ} {f : Poly p} → Prime p → (n : ℕ) (m cs : List ℕ) (t : ℕ) → Least (KillsAll (times p n m) (take t (rows p n cs))) d f
+    → Orders (times p n m) (rows p n cs) (standOrders p n m cs) × IsLcm (polys (take t (standOrders p n m cs))) d f
+unfolding standOrders
+taken-common {p} P n m cs t F =
+    let L = times-linear p n m in
+    let O = ordersOf-orders P (times p n m) n (times-machine p n m) (rows p n cs) (rows-below p n cs) in
+    let vs = take t (rows p n cs) in
+    let os = take t (standOrders p n m cs) in
+    let T = orders-take (times p n m) t (rows p n cs) (standOrders p n m cs) O in
+    (O, least-lcm (least-same (kills-multiples L vs os T) (multiples-kill L vs os T) F))
+
+-- the witness is one of the n unit rows
+pub tested-within : {p : ℕ} (X : S p → S p) (n : ℕ) (f : Poly p) (w : ℕ) → Tested X n f (standingOf w) w → w ≤ n
+unfolding standingOf
+tested-within X n f zero T = omega arith
+tested-within X n f (suc w) T = T .1
+
+pub standing-proved : (w : ℕ) → w ≡ 0 → standingOf w ≡ proved
+unfolding standingOf
+standing-proved w e = rw e
+
+pub standing-short : (w : ℕ) → ¬ (w ≡ 0) → standingOf w ≡ short
+unfolding standingOf
+standing-short zero h = absurd (h refl)
+standing-short (suc w) h = refl
+
+pub stand-written : {row : List ℕ} {new : List ℕ × List ℕ} (p n : ℕ) (m cs : List ℕ) (a : ℕ) (c : List ℕ) (r : Outcome) (old : List ℕ × List ℕ) → Prime p
+    → Front (degs (standOrders p n m cs)) a (r .taken) → r .spent ≡ sum (take (r .taken) (degs (standOrders p n m cs)))
+    → Least (KillsAll (times p n m) (take (r .taken) (rows p n cs))) (r .degree) (polyOf p c)
+    → (w : ℕ) → standingOf w ≡ r .standing → w ≡ r .witness → Tested (times p n m) n (polyOf p c) (standingOf w) w → Small p c → n + 1 ≤ length c
+    → new .0 ≡ write (take (n + 1) c) (old .0) → row ≡ bytes n (witnessRow (times p n m) (polyOf p c) (standingOf w) w) → new .1 ≡ write row (old .1)
+    → StandResult p n m cs a old r new
+stand-written p n m cs a c r old P A s F w q u T h l e b k =
+    let (O, C) = taken-common P n m cs (r .taken) F in
+    record {
+      poly = polyOf p c;
+      stand = record { orders = standOrders p n m cs; each = O; front = A; spent = s; common = C; tested = subst₂ (λ x y. Tested (times p n m) n (polyOf p c) x y) q u T };
+      polynomial = e ∙ ap (λ b. write b (old .0)) (coefficient-bytes p n c h l);
+      witness = k ∙ ap (λ l. write l (old .1)) (b ∙ ap₂ (λ x y. bytes n (witnessRow (times p n m) (polyOf p c) x y)) q u);
+    }
+
+-- zeros behind the stage record
+take-zeros : (k j : ℕ) → k ≤ j → take k (replicate j 0) ≡ replicate {A = ℕ} k 0
+take-zeros zero j h = refl
+take-zeros (suc k) zero h = absurd (omega arith)
+take-zeros (suc k) (suc j) h = ap (λ l. 0 ∷ l) (take-zeros k j (omega arith))
+
+padded-front : (k j : ℕ) (l : List ℕ) → length l ≤ k → k ≤ j → take k (padded j l) ≡ padded k l
+unfolding padded
+padded-front k j [] a b = simp sub-zero (take-zeros k j b)
+padded-front zero j (x ∷ l) a b = absurd (omega arith)
+padded-front (suc k) zero (x ∷ l) a b = absurd (omega arith)
+padded-front (suc k) (suc j) (x ∷ l) a b = simp suc-sub-suc (ap (λ t. x ∷ t) (padded-front k j l (omega arith) (omega arith)))
+
+pub chain-written : {p count : ℕ} {bs : List ℕ} {new : List ℕ × List ℕ} (n : ℕ) (m cs c : List ℕ) (st : List (Order p)) (old : List ℕ × List ℕ) → Prime p → n ≤ 64
+    → IsChain p n m cs st → count ≡ length st → coef (polyOf p c) ≡ coef (product st) → Small p c → n + 1 ≤ length c → new .0 ≡ write (take (n + 1) c) (old .0)
+    → bs ≡ padded 128 (stageBytes st) → new .1 ≡ write (take (2 * n) bs) (old .1) → ChainResult p n m cs old count new
+chain-written {p} n m cs c st old P b A q v h l e w k = record {
+  stages = st;
+  chain = A;
+  number = q;
+  product = e ∙ ap (λ b. write b (old .0)) (coefficient-bytes p n c h l ∙ ap (bytes (suc n)) v);
+  record-bytes = k ∙ ap (λ b. write b (old .1)) (ap (take (2 * n)) w ∙ padded-front (2 * n) 128 (stageBytes st) (chain-record P n m cs st A) (omega arith));
 }

@@ -1,12 +1,9 @@
 -- What 01 calls the answers of the code: for each case of an answer its number or its values.
---   numberOf q     a refusal's number, 0 for none
---   due k b        the number k of a test that applies, else 0
---   earlier a b    the number of a test, and where it is 0 that of the next
---   invertedOf, orderedOf, imagedOf, periodedOf   a refusal with its number, or the result
+--   invertedOf, orderedOf, imagedOf, stoodOf, chainedOf, periodedOf   a refusal with its number, or the result
 -- Assumes nothing.
-use mathlib.Core.Bool.{Bool, true, false}
 use mathlib.Core.Option.{Option, none, some}
-use Prim.Native.Nat.{ℕ, zero, suc}
+use Prim.Native.Nat.{ℕ}
+use Rattle.meaning.specs.Stand.{Outcome, proved, short}
 use Rattle.meaning.specs.Calls.{Answer, refused, given}
 use Rattle.calls.specs.declared.Inverted.{Inverted}
 use Rattle.calls.specs.declared.Inverted.the-variants as inverted
@@ -14,20 +11,12 @@ use Rattle.calls.specs.declared.Ordered.{Ordered}
 use Rattle.calls.specs.declared.Ordered.the-variants as ordered
 use Rattle.calls.specs.declared.Imaged.{Imaged}
 use Rattle.calls.specs.declared.Imaged.the-variants as imaged
+use Rattle.calls.specs.declared.Stood.{Stood}
+use Rattle.calls.specs.declared.Stood.the-variants as stood
+use Rattle.calls.specs.declared.Chained.{Chained}
+use Rattle.calls.specs.declared.Chained.the-variants as chained
 use Rattle.calls.specs.declared.Perioded.{Perioded}
 use Rattle.calls.specs.declared.Perioded.the-variants as perioded
-
-abbrev pub numberOf : Option ℕ → ℕ
-numberOf none = 0
-numberOf (some k) = k
-
-unfoldable pub due : ℕ → Bool → ℕ
-due k true = k
-due k false = 0
-
-unfoldable pub earlier : ℕ → ℕ → ℕ
-earlier zero b = b
-earlier (suc a) b = suc a
 
 abbrev pub invertedOf : Inverted → Answer ℕ
 invertedOf (inverted.Inverse r) = given r
@@ -40,6 +29,15 @@ orderedOf (ordered.Refused k) = refused k
 abbrev pub imagedOf : Imaged → Answer (Unit {0})
 imagedOf imaged.Written = given tt
 imagedOf (imaged.Refused k) = refused k
+
+abbrev pub stoodOf : Stood → Answer Outcome
+stoodOf (stood.Proved c) = given (record { standing = proved; degree = c .degree; taken = c .taken; spent = c .spent; witness = 0 })
+stoodOf (stood.Short c w) = given (record { standing = short; degree = c .degree; taken = c .taken; spent = c .spent; witness = w })
+stoodOf (stood.Refused k) = refused k
+
+abbrev pub chainedOf : Chained → Answer ℕ
+chainedOf (chained.Stages k) = given k
+chainedOf (chained.Refused k) = refused k
 
 abbrev pub periodedOf : Perioded → Answer (Option ℕ)
 periodedOf (perioded.Least t) = given (some t)

@@ -1,16 +1,12 @@
 // The calls, as a customer makes them. Every call answers for all inputs: what is wrong is refused by number, in the order of the refusal table, and
 // a refused call changes no byte lent to it.
 ghost use mathlib.Core.Path.{_≡_};
-ghost use mathlib.Core.List.{[], _∷_};
 ghost use Prim.Native.Nat.{_≤_};
-ghost use lib.Dec.{leb};
 ghost use lib.ListN.{length};
 ghost use Rattle.meaning.specs.Bytes.{write};
-ghost use Rattle.meaning.specs.Refusal.{noPrime, noSize, noMatrix, noVector, noPolynomial, badEntry, tooShort, first, orderRefusal, imageRefusal, periodRefusal};
-ghost use Rattle.meaning.specs.Calls.{InverseCall, OrderCall, ImageCall, PeriodCall};
-ghost use Rattle.calls.specs.Answers.{numberOf, due, earlier, invertedOf, orderedOf, imagedOf, periodedOf};
+ghost use Rattle.meaning.specs.Calls.{InverseCall, OrderCall, ImageCall, StandCall, ChainCall, PeriodCall};
+ghost use Rattle.calls.specs.Answers.{invertedOf, orderedOf, imagedOf, stoodOf, chainedOf, periodedOf};
 use power::Span;
-use rows::Found;
 
 pub enum Inverted {
     Inverse(u8),
@@ -27,103 +23,29 @@ pub enum Imaged {
     Refused(u8),
 }
 
+// What a stand counts: the polynomial's degree, the rows taken, the products spent.
+pub struct Counts {
+    pub degree: usize,
+    pub taken: usize,
+    pub spent: u32,
+}
+
+// A short stand has its witness, counted from 1.
+pub enum Stood {
+    Proved(Counts),
+    Short(Counts, usize),
+    Refused(u8),
+}
+
+pub enum Chained {
+    Stages(usize),
+    Refused(u8),
+}
+
 pub enum Perioded {
     Least(u32),
     Never,
     Refused(u8),
-}
-
-// Of the numbers of two tests, 0 for one that does not apply, the one that is due: the first is tested earlier.
-fn earlier(a: u8, b: u8) -> u8
-    ensures { λ r. ⌜ r ≡ earlier a b ⌝ }
-{
-    if a == 0 {
-        return b;
-    }
-    a
-}
-
-// Test 1.
-fn prime(p: u32) -> u8
-    ensures { λ r. ⌜ r ≡ due 1 (noPrime p) ⌝ }
-{
-    if scalar::is_prime(p) {
-        return 0;
-    }
-    1
-}
-
-// Tests 1, 2 and 3, which every call on a matrix runs first: the number of the first that applies, 0 for none.
-fn shape(p: u32, n: usize, m: &[u8]) -> u8
-    ensures { λ r. ⌜ r ≡ numberOf (first ((1, noPrime p) ∷ (2, noSize n) ∷ (3, noMatrix n (now (m .entry))) ∷ [])) ⌝ }
-{
-    let bad = prime(p);
-    if bad != 0 {
-        return bad;
-    }
-    if n < 1 {
-        return 2;
-    }
-    if 64 < n {
-        return 2;
-    }
-    if m.len() != n * n {
-        return 3;
-    }
-    0
-}
-
-// Test 4 of a call that takes one row.
-fn vector(n: usize, v: &[u8]) -> u8
-    ensures { λ r. ⌜ r ≡ due 4 (noVector n (now (v .entry))) ⌝ }
-{
-    if v.len() != n {
-        return 4;
-    }
-    0
-}
-
-// Test 7.
-fn polynomial(f: &[u8]) -> u8
-    ensures { λ r. ⌜ r ≡ due 7 (noPolynomial (now (f .entry))) ⌝ }
-{
-    if f.len() < 1 {
-        return 7;
-    }
-    if 65 < f.len() {
-        return 7;
-    }
-    0
-}
-
-// Test 5 of a scalar.
-fn bound(p: u32, a: u32) -> u8
-    ensures { λ r. ⌜ r ≡ due 5 (leb p a) ⌝ }
-{
-    if p <= a {
-        return 5;
-    }
-    0
-}
-
-// Test 5 of entries. The place of the first that is p or more is known here, and the calls give only the number.
-fn entries(p: u32, s: &[u8]) -> u8
-    ensures { λ r. ⌜ r ≡ due 5 (badEntry p (now (s .entry))) ⌝ }
-{
-    match rows::first_bad(p, s) {
-        Found::At(_) => 5,
-        Found::Nothing => 0,
-    }
-}
-
-// Test 6 of one buffer that is to hold k bytes.
-fn room(k: usize, out: &[u8]) -> u8
-    ensures { λ r. ⌜ r ≡ due 6 (tooShort k (now (out .entry))) ⌝ }
-{
-    if out.len() < k {
-        return 6;
-    }
-    0
 }
 
 // The bytes of `from` at the front of a buffer.
@@ -139,34 +61,18 @@ fn put(from: &[u8], out: &mut [u8])
 pub fn inverse(p: u32, a: u32) -> Inverted
     ensures { λ r. ⌜ InverseCall p a (invertedOf r) ⌝ }
 {
-    let field = prime(p);
-    let large = bound(p, a);
-    let bad = earlier(field, large);
+    let bad = refusals::of_inverse(p, a);
     if bad != 0 {
         return Inverted::Refused(bad);
     }
     Inverted::Inverse(scalar::inverse(p as u8, a as u8))
 }
 
-// The refusal of the order call, 0 for none.
-fn order_refusal(p: u32, n: usize, m: &[u8], v: &[u8], out: &[u8]) -> u8
-    ensures { λ r. ⌜ r ≡ numberOf (orderRefusal p n (now (m .entry)) (now (v .entry)) (now (out .entry))) ⌝ }
-{
-    let bad = shape(p, n, m);
-    if bad != 0 {
-        return bad;
-    }
-    let length = vector(n, v);
-    let entry = earlier(entries(p, m), entries(p, v));
-    let short = room(n + 1, out);
-    earlier(length, earlier(entry, short))
-}
-
 // The order of one row: the monic polynomial of least degree that sends it to zero, its n + 1 coefficients at the front of `out`.
 pub fn order(p: u32, n: usize, m: &[u8], v: &[u8], out: &mut [u8]) -> Ordered
     ensures { λ r. ⌜ OrderCall p n (now (m .entry)) (now (v .entry)) (now (out .entry)) (orderedOf r) (now (out .exit)) ⌝ }
 {
-    let bad = order_refusal(p, n, m, v, out);
+    let bad = refusals::of_order(p, n, m, v, out);
     if bad != 0 {
         return Ordered::Refused(bad);
     }
@@ -179,26 +85,11 @@ pub fn order(p: u32, n: usize, m: &[u8], v: &[u8], out: &mut [u8]) -> Ordered
     Ordered::Degree(spun.deg)
 }
 
-// The refusal of the image call, 0 for none.
-fn image_refusal(p: u32, n: usize, m: &[u8], v: &[u8], f: &[u8], out: &[u8]) -> u8
-    ensures { λ r. ⌜ r ≡ numberOf (imageRefusal p n (now (m .entry)) (now (v .entry)) (now (f .entry)) (now (out .entry))) ⌝ }
-{
-    let bad = shape(p, n, m);
-    if bad != 0 {
-        return bad;
-    }
-    let length = vector(n, v);
-    let degree = polynomial(f);
-    let entry = earlier(entries(p, m), earlier(entries(p, v), entries(p, f)));
-    let short = room(n, out);
-    earlier(length, earlier(degree, earlier(entry, short)))
-}
-
 // v·f(M), its n entries at the front of `out`.
 pub fn image(p: u32, n: usize, m: &[u8], v: &[u8], f: &[u8], out: &mut [u8]) -> Imaged
     ensures { λ r. ⌜ ImageCall p n (now (m .entry)) (now (v .entry)) (now (f .entry)) (now (out .entry)) (imagedOf r) (now (out .exit)) ⌝ }
 {
-    let bad = image_refusal(p, n, m, v, f, out);
+    let bad = refusals::of_image(p, n, m, v, f, out);
     if bad != 0 {
         return Imaged::Refused(bad);
     }
@@ -206,22 +97,61 @@ pub fn image(p: u32, n: usize, m: &[u8], v: &[u8], f: &[u8], out: &mut [u8]) -> 
     Imaged::Written
 }
 
-// The refusal of the period call, 0 for none.
-fn period_refusal(p: u32, n: usize, m: &[u8]) -> u8
-    ensures { λ r. ⌜ r ≡ numberOf (periodRefusal p n (now (m .entry))) ⌝ }
+// The stand: rows are taken from the front while the allowance pays for their products, and the least common multiple of their orders is marked
+// proved where every unit row is sent to zero. Its n + 1 coefficients go to the front of `poly`, the n entries of the witness's image, or zeros, to
+// that of `image`.
+pub fn stand(p: u32, n: usize, m: &[u8], cs: &[u8], allowance: u32, poly: &mut [u8], image: &mut [u8]) -> Stood
+    ensures { λ r. ⌜ StandCall p n (now (m .entry)) (now (cs .entry)) allowance (now (poly .entry), now (image .entry)) (stoodOf r) (now (poly .exit), now (image .exit)) ⌝ }
 {
-    let bad = shape(p, n, m);
+    let bad = refusals::of_stand(p, n, m, cs, poly, image);
     if bad != 0 {
-        return bad;
+        return Stood::Refused(bad);
     }
-    entries(p, m)
+    let field = p as u8;
+    let gathered = taking::take_rows(field, n, m, cs, allowance);
+    let f = gathered.poly;
+    let witness = taking::witness(field, n, m, f);
+    let row = taking::witness_row(field, n, m, f, witness);
+    let coefficients = f.c;
+    let places = n + 1;
+    put(&coefficients[..places], poly);
+    put(&row[..n], image);
+    let counts = Counts {
+        degree: f.deg,
+        taken: gathered.taken,
+        spent: gathered.spent,
+    };
+    if witness == 0 {
+        return Stood::Proved(counts);
+    }
+    Stood::Short(counts, witness)
+}
+
+// The chain of relative orders over the candidates in order, then the unit rows in order. The n + 1 coefficients of the stages' product go to the
+// front of `product`; the stage record, zeros behind it up to 2n bytes, to that of `stages`.
+pub fn chain(p: u32, n: usize, m: &[u8], cs: &[u8], product: &mut [u8], stages: &mut [u8]) -> Chained
+    ensures { λ r. ⌜ ChainCall p n (now (m .entry)) (now (cs .entry)) (now (product .entry), now (stages .entry)) (chainedOf r) (now (product .exit), now (stages .exit)) ⌝ }
+{
+    let bad = refusals::of_chain(p, n, m, cs, product, stages);
+    if bad != 0 {
+        return Chained::Refused(bad);
+    }
+    let links = linking::link(p as u8, n, m, cs);
+    let f = links.product;
+    let coefficients = f.c;
+    let record = links.record;
+    let size = n + 1;
+    let bytes = 2 * n;
+    put(&coefficients[..size], product);
+    put(&record[..bytes], stages);
+    Chained::Stages(links.stages)
 }
 
 // The least t from 1 to 65,536 with the t-th power of M equal to the identity, or that there is none.
 pub fn period(p: u32, n: usize, m: &[u8]) -> Perioded
     ensures { λ r. ⌜ PeriodCall p n (now (m .entry)) (periodedOf r) ⌝ }
 {
-    let bad = period_refusal(p, n, m);
+    let bad = refusals::of_period(p, n, m);
     if bad != 0 {
         return Perioded::Refused(bad);
     }

@@ -9,7 +9,8 @@ use lib.ListN.{length}
 use lib.Seq.{length-take-le}
 use Rattle.meaning.specs.Refusal.{imageRefusal}
 use Rattle.meaning.proofs.Refusal.{image-sound}
-use Rattle.calls.proofs.Laws.{some-number, none-number, refused-by, given-by, image-written}
+use Rattle.refusals.proofs.Laws.{some-number, none-number}
+use Rattle.calls.proofs.Laws.{refused-by, given-by, image-written}
 use Rattle.calls.proofs.image.Statement.{statement}
 use Rattle.calls.proofs.image.Tie as tie
 
@@ -18,16 +19,16 @@ start c = c .before .before .before .before .before .before .before
 
 taken : (c : tie.Else1) → let x = start c .args in imageRefusal (x .p) (x .n) (x .m .now) (x .v .now) (x .f .now) (x .out .now) ≡ none
 unfolding imageRefusal
-taken c = none-number _ (omega arith) (sym (c .if1 .left) ∙ c .before .image-refusal .ensures)
+taken c = none-number _ (omega arith) (sym (c .if1 .left) ∙ c .before .of-image .ensures)
 
-image-refusal-requires : tie.Need-image-refusal-requires
-image-refusal-requires c κs = search needs
+of-image-requires : tie.Need-of-image-requires
+of-image-requires c κs = search needs
 
 same-length : tie.Need-same-length
 same-length c = search needs
 
 returns : tie.Need-returns
-returns c = refused-by (some-number _ (c .before .image-refusal .ensures) (c .if1 .taken))
+returns c = refused-by (some-number _ (c .before .of-image .ensures) (c .if1 .taken))
 
 cast-image : tie.Need-cast-image
 cast-image c = omega (arith, image-sound _ _ _ _ _ _ (taken c))
@@ -76,7 +77,7 @@ pub image-spec : {M : Type 1} → statement M
 image-spec =
     tie.close
     (tie.spec
-    image-refusal-requires
+    of-image-requires
     same-length
     returns
     cast-image

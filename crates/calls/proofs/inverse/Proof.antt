@@ -1,34 +1,24 @@
--- `calls::inverse` meets its contract: the prime test and the bound decide the refusal. Assumes nothing.
-use mathlib.Core.Path.{_≡_, sym, ap₂, _∙_}
+-- `calls::inverse` meets its contract: where the refusal is none, the scalar is below a prime. Assumes nothing.
+use mathlib.Core.Path.{_≡_, sym, _∙_}
 use mathlib.Core.Option.{none}
 use native.Mathlib.Omega.{arith}
 use borrow.Author.Needs.{needs}
 use Rattle.meaning.specs.Refusal.{inverseRefusal}
 use Rattle.meaning.proofs.Refusal.{inverse-sound}
-use Rattle.calls.specs.Answers.{numberOf, earlier}
-use Rattle.calls.proofs.Laws.{some-number, none-number, inverse-number, refused-by, given-by, inverse-given}
+use Rattle.refusals.proofs.Laws.{some-number, none-number}
+use Rattle.calls.proofs.Laws.{refused-by, given-by, inverse-given}
 use Rattle.calls.proofs.inverse.Statement.{statement}
 use Rattle.calls.proofs.inverse.Tie as tie
 
-refusal : (c : tie.After-earlier) → let x = c .before .before .before .args in c .earlier .result ≡ numberOf (inverseRefusal (x .p) (x .a))
-refusal c =
-    c .earlier .ensures ∙ ap₂ earlier (c .before .before .prime .ensures) (c .before .bound .ensures) ∙ sym (inverse-number _ _)
-
-taken : (c : tie.Else1) → let x = c .before .before .before .before .args in inverseRefusal (x .p) (x .a) ≡ none
+taken : (c : tie.Else1) → let x = c .before .before .args in inverseRefusal (x .p) (x .a) ≡ none
 unfolding inverseRefusal
-taken c = none-number _ (omega arith) (sym (c .if1 .left) ∙ refusal (c .before))
+taken c = none-number _ (omega arith) (sym (c .if1 .left) ∙ c .before .of-inverse .ensures)
 
-prime-requires : tie.Need-prime-requires
-prime-requires c κs = search needs
-
-bound-requires : tie.Need-bound-requires
-bound-requires c κs = search needs
-
-earlier-requires : tie.Need-earlier-requires
-earlier-requires c κs = search needs
+of-inverse-requires : tie.Need-of-inverse-requires
+of-inverse-requires c κs = search needs
 
 returns : tie.Need-returns
-returns c = refused-by (some-number _ (refusal (c .before)) (c .if1 .taken))
+returns c = refused-by (some-number _ (c .before .of-inverse .ensures) (c .if1 .taken))
 
 cast-inverse : tie.Need-cast-inverse
 cast-inverse c = omega (arith, inverse-sound _ _ (taken c))
@@ -48,9 +38,7 @@ pub inverse-spec : {M : Type 1} → statement M
 inverse-spec =
     tie.close
     (tie.spec
-    prime-requires
-    bound-requires
-    earlier-requires
+    of-inverse-requires
     returns
     cast-inverse
     cast-inverse-2

@@ -10,7 +10,8 @@ use lib.Seq.{length-take-le}
 use Rattle.meaning.specs.Refusal.{orderRefusal}
 use Rattle.meaning.proofs.Refusal.{order-sound}
 use Rattle.spin.proofs.Laws.{before-empty, spinned-order}
-use Rattle.calls.proofs.Laws.{some-number, none-number, refused-by, given-by, order-written}
+use Rattle.refusals.proofs.Laws.{some-number, none-number}
+use Rattle.calls.proofs.Laws.{refused-by, given-by, order-written}
 use Rattle.calls.proofs.order.Statement.{statement}
 use Rattle.calls.proofs.order.Tie as tie
 
@@ -19,16 +20,16 @@ start c = c .before .before .before .before .before .before
 
 taken : (c : tie.Else1) → let x = start c .args in orderRefusal (x .p) (x .n) (x .m .now) (x .v .now) (x .out .now) ≡ none
 unfolding orderRefusal
-taken c = none-number _ (omega arith) (sym (c .if1 .left) ∙ c .before .order-refusal .ensures)
+taken c = none-number _ (omega arith) (sym (c .if1 .left) ∙ c .before .of-order .ensures)
 
-order-refusal-requires : tie.Need-order-refusal-requires
-order-refusal-requires c κs = search needs
+of-order-requires : tie.Need-of-order-requires
+of-order-requires c κs = search needs
 
 same-length : tie.Need-same-length
 same-length c = search needs
 
 returns : tie.Need-returns
-returns c = refused-by (some-number _ (c .before .order-refusal .ensures) (c .if1 .taken))
+returns c = refused-by (some-number _ (c .before .of-order .ensures) (c .if1 .taken))
 
 cast-spin : tie.Need-cast-spin
 cast-spin c = omega (arith, order-sound _ _ _ _ _ (taken c))
@@ -89,7 +90,7 @@ pub order-spec : {M : Type 1} → statement M
 order-spec =
     tie.close
     (tie.spec
-    order-refusal-requires
+    of-order-requires
     same-length
     returns
     cast-spin

@@ -7,7 +7,8 @@ use Rattle.meaning.specs.Period.{IsPeriod}
 use Rattle.meaning.specs.Refusal.{periodRefusal}
 use Rattle.meaning.proofs.Refusal.{period-sound}
 use Rattle.power.specs.Square.{periodOf}
-use Rattle.calls.proofs.Laws.{some-number, none-number, refused-by, given-by}
+use Rattle.refusals.proofs.Laws.{some-number, none-number}
+use Rattle.calls.proofs.Laws.{refused-by, given-by}
 use Rattle.calls.proofs.period.Statement.{statement}
 use Rattle.calls.proofs.period.Tie as tie
 
@@ -16,13 +17,13 @@ start c = c .before .before .before
 
 taken : (c : tie.Else1) → let x = start c .args in periodRefusal (x .p) (x .n) (x .m .now) ≡ none
 unfolding periodRefusal
-taken c = none-number _ (omega arith) (sym (c .if1 .left) ∙ c .before .period-refusal .ensures)
+taken c = none-number _ (omega arith) (sym (c .if1 .left) ∙ c .before .of-period .ensures)
 
-period-refusal-requires : tie.Need-period-refusal-requires
-period-refusal-requires c κs = search needs
+of-period-requires : tie.Need-of-period-requires
+of-period-requires c κs = search needs
 
 returns : tie.Need-returns
-returns c = refused-by (some-number _ (c .before .period-refusal .ensures) (c .if1 .taken))
+returns c = refused-by (some-number _ (c .before .of-period .ensures) (c .if1 .taken))
 
 cast-period : tie.Need-cast-period
 cast-period c = omega (arith, period-sound _ _ _ (taken c))
@@ -58,7 +59,7 @@ pub period-spec : {M : Type 1} → statement M
 period-spec =
     tie.close
     (tie.spec
-    period-refusal-requires
+    of-period-requires
     returns
     cast-period
     period-requires

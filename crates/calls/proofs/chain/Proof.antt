@@ -1,0 +1,132 @@
+-- `calls::chain` meets its contract: where the refusal is none, the inputs are sound; the stages come from `linking`, and their product and their
+-- record are put to the front of their buffers. Assumes nothing.
+use mathlib.Core.Path.{_≡_, sym, _∙_}
+use mathlib.Core.Option.{none}
+use Prim.Native.Nat.{_+_, _*_, _≤_}
+use native.Mathlib.Omega.{arith}
+use borrow.Author.Needs.{needs}
+use lib.ListN.{length, length-take}
+use lib.Seq.{length-take-le}
+use Rattle.meaning.specs.Refusal.{chainRefusal}
+use Rattle.meaning.proofs.Refusal.{chain-sound}
+use Rattle.refusals.proofs.Laws.{some-number, none-number}
+use Rattle.calls.proofs.Laws.{refused-by, given-by, chain-written}
+use Rattle.calls.proofs.chain.Statement.{statement}
+use Rattle.calls.proofs.chain.Tie as tie
+
+abbrev start : tie.Else1 → tie.Start
+start c = c .before .before .before .before .before .before .before .before
+
+taken : (c : tie.Else1) → let x = start c .args in
+    chainRefusal (x .p) (x .n) (x .m .now) (x .cs .now) (x .product .now) (x .stages .now) ≡ none
+unfolding chainRefusal
+taken c = none-number _ (omega arith) (sym (c .if1 .left) ∙ c .before .of-chain .ensures)
+
+of-chain-requires : tie.Need-of-chain-requires
+of-chain-requires c κs = search needs
+
+same-length : tie.Need-same-length
+same-length c = search needs
+
+same-length-2 : tie.Need-same-length-2
+same-length-2 c = search needs
+
+returns : tie.Need-returns
+returns c = refused-by (some-number _ (c .before .of-chain .ensures) (c .if1 .taken))
+
+cast-link : tie.Need-cast-link
+cast-link c = omega (arith, chain-sound _ _ _ _ _ _ (taken c))
+
+link-requires : tie.Need-link-requires
+link-requires c κs =
+    let S = chain-sound _ _ _ _ _ _ (taken c) in
+    (S .0 .prime, ((S .0 .some-size, S .0 .size), (S .0 .matrix, S .1 .whole)))
+
+-- the coefficients, the record and the buffers have their places
+room : (c : tie.After-link) → let x = start (c .before) .args in
+    (x .n + 1 ≤ 65) × (x .n + 1 ≤ length (c .link .result .product .c)) × (x .n + 1 ≤ length (x .product .now))
+    × (2 * x .n ≤ length (c .link .result .«record»)) × (2 * x .n ≤ length (x .stages .now))
+room c =
+    let S = chain-sound _ _ _ _ _ _ (taken (c .before)) in
+    let most = S .0 .size in
+    let long : length (c .link .result .«record») ≡ 128 = search needs in
+    (omega arith, omega (arith, c .link .ensures .product .good .places), S .2, omega arith, S .3)
+
+add-size : tie.Need-add-size
+add-size c = omega (arith, room (c .before .before .before))
+
+mul-bytes : tie.Need-mul-bytes
+mul-bytes c = omega (arith, room (c .before .before .before))
+
+array-share-prefix-coefficients : tie.Need-array-share-prefix-coefficients
+array-share-prefix-coefficients c = omega (arith, room (c .before .before .before))
+
+slice-aggregate-put : tie.Need-slice-aggregate-put
+slice-aggregate-put c = sym (length-take-le _ _ (omega (arith, room (c .before .before .before .before))))
+
+put-requires : tie.Need-put-requires
+put-requires c κs = simp length-take (omega (arith, room (c .before .before .before .before .before)))
+
+array-share-prefix-record : tie.Need-array-share-prefix-record
+array-share-prefix-record c = omega (arith, room (c .before .before .before .before .before .before .before .before))
+
+slice-aggregate-put-2 : tie.Need-slice-aggregate-put-2
+slice-aggregate-put-2 c = sym (length-take-le _ _ (omega (arith, room (c .before .before .before .before .before .before .before .before .before))))
+
+put-requires-2 : tie.Need-put-requires-2
+put-requires-2 c κs = simp length-take (omega (arith, room (c .before .before .before .before .before .before .before .before .before .before)))
+
+same-length-3 : tie.Need-same-length-3
+same-length-3 c = search needs
+
+same-length-4 : tie.Need-same-length-4
+same-length-4 c = search needs
+
+returns-2 : tie.Need-returns-2
+returns-2 c =
+    let P = c .before .before in
+    let Q = P .before .before .before .before .before in
+    let R = Q .before .before .before .before .before .before in
+    let x = start (R .before) .args in
+    let G = R .link .ensures in
+    given-by
+    (taken (R .before))
+    (chain-written
+    (x .n)
+    (x .m .now)
+    (x .cs .now)
+    (R .link .result .product .c)
+    (G .stages)
+    (x .product .now, x .stages .now)
+    (G .product .good .prime)
+    (chain-sound _ _ _ _ _ _ (taken (R .before)) .0 .size)
+    (G .chain)
+    (G .number)
+    (G .product .value)
+    (G .product .good .small)
+    (room R .1)
+    (Q .put .ensures)
+    (G .record-bytes)
+    (P .put2 .ensures))
+
+pub chain-spec : {M : Type 1} → statement M
+chain-spec =
+    tie.close
+    (tie.spec
+    of-chain-requires
+    same-length
+    same-length-2
+    returns
+    cast-link
+    link-requires
+    add-size
+    mul-bytes
+    array-share-prefix-coefficients
+    slice-aggregate-put
+    put-requires
+    array-share-prefix-record
+    slice-aggregate-put-2
+    put-requires-2
+    same-length-3
+    same-length-4
+    returns-2)

@@ -1,0 +1,199 @@
+-- `calls::stand` meets its contract: where the refusal is none, the inputs are sound; the rows taken, their lcm and its test come from `taking`,
+-- and the polynomial and the witness's image are put to the front of their buffers. Assumes nothing.
+use mathlib.Core.Path.{_≡_, refl, sym, _∙_}
+use mathlib.Core.Option.{none}
+use Prim.Native.Nat.{ℕ, _+_, _≤_}
+use native.Mathlib.Omega.{arith}
+use borrow.Author.Needs.{needs}
+use lib.ListN.{length, take, length-take}
+use lib.Seq.{length-take-le}
+use Rattle.meaning.specs.Bytes.{rows}
+use Rattle.meaning.specs.Refusal.{standRefusal}
+use Rattle.meaning.specs.Stand.{Standing, proved, short}
+use Rattle.meaning.specs.Calls.{StandResult}
+use Rattle.meaning.proofs.Bytes.{rows-below}
+use Rattle.meaning.proofs.Degrees.{below-take}
+use Rattle.meaning.proofs.Refusal.{stand-sound}
+use Rattle.promises.specs.Run.{standingOf}
+use Rattle.taking.specs.Taking.{Killing}
+use Rattle.refusals.proofs.Laws.{some-number, none-number}
+use Rattle.calls.proofs.Laws.{refused-by, given-by, tested-within, standing-proved, standing-short, stand-written}
+use Rattle.calls.proofs.stand.Statement.{statement}
+use Rattle.calls.proofs.stand.Tie as tie
+
+abbrev start : tie.Else1 → tie.Start
+start c = c .before .before .before .before .before .before .before .before
+
+taken : (c : tie.Else1) → let x = start c .args in
+    standRefusal (x .p) (x .n) (x .m .now) (x .cs .now) (x .poly .now) (x .image .now) ≡ none
+unfolding standRefusal
+taken c = none-number _ (omega arith) (sym (c .if1 .left) ∙ c .before .of-stand .ensures)
+
+of-stand-requires : tie.Need-of-stand-requires
+of-stand-requires c κs = search needs
+
+same-length : tie.Need-same-length
+same-length c = search needs
+
+same-length-2 : tie.Need-same-length-2
+same-length-2 c = search needs
+
+returns : tie.Need-returns
+returns c = refused-by (some-number _ (c .before .of-stand .ensures) (c .if1 .taken))
+
+cast-field : tie.Need-cast-field
+cast-field c = omega (arith, stand-sound _ _ _ _ _ _ (taken c))
+
+take-rows-requires : tie.Need-take-rows-requires
+take-rows-requires c κs =
+    let S = stand-sound _ _ _ _ _ _ (taken c) in
+    (S .0 .prime, ((S .0 .some-size, S .0 .size), (S .0 .matrix, S .1 .whole)))
+
+-- F is the least polynomial that sends the taken rows to zero
+killing : (c : tie.After-take-rows) → let x = start (c .before) .args in Killing (x .p) (x .n) (x .m .now) (c .take-rows .result .poly)
+killing c =
+    let x = start (c .before) .args in
+    let t = c .take-rows .result .taken in
+    let G = c .take-rows .ensures in
+    record {
+      good = G .good;
+      killed = take t (rows (x .p) (x .n) (x .cs .now));
+      sized = below-take (x .n) t (rows (x .p) (x .n) (x .cs .now)) (rows-below (x .p) (x .n) (x .cs .now));
+      least = G .least;
+    }
+
+witness-requires : tie.Need-witness-requires
+witness-requires c κs =
+    let S = stand-sound _ _ _ _ _ _ (taken (c .before .before)) in
+    (S .0 .prime, ((S .0 .some-size, S .0 .size), (S .0 .matrix, killing (c .before))))
+
+witness-row-requires : tie.Need-witness-row-requires
+witness-row-requires c κs =
+    let S = stand-sound _ _ _ _ _ _ (taken (c .before .before .before)) in
+    (S .0 .prime, (S .0 .size, (S .0 .matrix, (c .before .before .take-rows .ensures .good, tested-within _ _ _ _ (c .witness .ensures)))))
+
+-- the coefficients, the image and the buffers have their places
+room : (c : tie.After-witness-row) → let x = start (c .before .before .before .before) .args in
+    (x .n + 1 ≤ 65) × (x .n + 1 ≤ length (c .before .before .before .take-rows .result .poly .c)) × (x .n + 1 ≤ length (x .poly .now))
+    × (x .n ≤ length (c .witness-row .result)) × (x .n ≤ length (x .image .now))
+room c =
+    let S = stand-sound _ _ _ _ _ _ (taken (c .before .before .before .before)) in
+    let most = S .0 .size in
+    let long : length (c .witness-row .result) ≡ 64 = search needs in
+    (omega arith, omega (arith, c .before .before .before .take-rows .ensures .good .places), S .2, omega arith, S .3)
+
+add-places : tie.Need-add-places
+add-places c = omega (arith, room (c .before))
+
+array-share-prefix-coefficients : tie.Need-array-share-prefix-coefficients
+array-share-prefix-coefficients c = omega (arith, room (c .before))
+
+slice-aggregate-put : tie.Need-slice-aggregate-put
+slice-aggregate-put c = sym (length-take-le _ _ (omega (arith, room (c .before .before))))
+
+put-requires : tie.Need-put-requires
+put-requires c κs = simp length-take (omega (arith, room (c .before .before .before)))
+
+array-share-prefix-row : tie.Need-array-share-prefix-row
+array-share-prefix-row c = omega (arith, room (c .before .before .before .before .before .before))
+
+slice-aggregate-put-2 : tie.Need-slice-aggregate-put-2
+slice-aggregate-put-2 c = sym (length-take-le _ _ (omega (arith, room (c .before .before .before .before .before .before .before))))
+
+put-requires-2 : tie.Need-put-requires-2
+put-requires-2 c κs = simp length-take (omega (arith, room (c .before .before .before .before .before .before .before .before)))
+
+same-length-3 : tie.Need-same-length-3
+same-length-3 c = search needs
+
+same-length-4 : tie.Need-same-length-4
+same-length-4 c = search needs
+
+-- the refusal is none once both buffers are written
+passed : (c : tie.After-put2) →
+    let E = c .before .before .before .before .before .before .before .before .before .before .before .before .before in
+    let x = start E .args in
+    standRefusal (x .p) (x .n) (x .m .now) (x .cs .now) (x .poly .now) (x .image .now) ≡ none
+passed c = taken (c .before .before .before .before .before .before .before .before .before .before .before .before .before)
+
+-- what is given, with the standing and the witness as the answer names them
+written : (c : tie.After-put2) (s : Standing) (w : ℕ) →
+    let Q = c .before .before .before .before .before in
+    let W = Q .before .before .before .before .before in
+    let T = W .before .before in
+    let x = start (T .before) .args in
+    let g = T .take-rows .result in
+    standingOf (W .witness .result) ≡ s → W .witness .result ≡ w
+    → StandResult (x .p) (x .n) (x .m .now) (x .cs .now) (x .allowance) (x .poly .now, x .image .now)
+    (record { standing = s; degree = g .poly .deg; taken = g .taken; spent = g .spent; witness = w }) (Q .put .last .1 .0, c .put2 .last .1 .0)
+written c s w e k =
+    let Q = c .before .before .before .before .before in
+    let R = Q .before .before .before .before in
+    let W = R .before in
+    let T = W .before .before in
+    let x = start (T .before) .args in
+    let G = T .take-rows .ensures in
+    stand-written
+    (x .p)
+    (x .n)
+    (x .m .now)
+    (x .cs .now)
+    (x .allowance)
+    (T .take-rows .result .poly .c)
+    _
+    (x .poly .now, x .image .now)
+    (G .good .prime)
+    (G .front)
+    (G .spent)
+    (G .least)
+    (W .witness .result)
+    e
+    k
+    (W .witness .ensures)
+    (G .good .small)
+    (room R .1)
+    (Q .put .ensures)
+    (R .witness-row .ensures)
+    (c .put2 .ensures)
+
+returns-2 : tie.Need-returns-2
+returns-2 c =
+    let P = c .before .before .before in
+    given-by (passed P) (written P proved 0 (standing-proved _ (omega arith)) (omega arith))
+
+same-length-5 : tie.Need-same-length-5
+same-length-5 c = search needs
+
+same-length-6 : tie.Need-same-length-6
+same-length-6 c = search needs
+
+returns-3 : tie.Need-returns-3
+returns-3 c =
+    let P = c .before .before .before in
+    given-by (passed P) (written P short _ (standing-short _ (omega arith)) refl)
+
+pub stand-spec : {M : Type 1} → statement M
+stand-spec =
+    tie.close
+    (tie.spec
+    of-stand-requires
+    same-length
+    same-length-2
+    returns
+    cast-field
+    take-rows-requires
+    witness-requires
+    witness-row-requires
+    add-places
+    array-share-prefix-coefficients
+    slice-aggregate-put
+    put-requires
+    array-share-prefix-row
+    slice-aggregate-put-2
+    put-requires-2
+    same-length-3
+    same-length-4
+    returns-2
+    same-length-5
+    same-length-6
+    returns-3)

@@ -1,0 +1,158 @@
+-- The number that is due, from the tests that were run.
+--   applies        a test that does not fail applies
+--   prime-told     test 1, from the code's prime test
+--   due-here, due-passed   the number of a test that applies, and of one that does not
+--   earlier-next, earlier-kept   of two numbers the one that is due
+--   first-here, first-next, first-end   the first test of a list applies, or does not, or there is none
+--   first-front, first-past  a number due from the front of a list is due from the whole; where none is due, the rest decides
+--   size-told      n is 1 to 64 where tests 1 and 2 do not apply
+--   rows-over, rows-whole   whole rows leave no rest, and the other way round
+--   number-some, number-none   the number of a refusal
+--   Numbered ts    no test of ts has the number 0
+--   some-number, none-number   a number other than 0 is that of a refusal, and 0 that of none
+--   number-last, number-step, due-or   the number of a list of tests, test by test
+--   inverse-number, order-number, image-number, list-number   so for each call, after tests 1 to 3
+--   buffers-number   test 6 of two buffers, after all others
+-- Assumes nothing.
+use mathlib.Core.Path.{_≡_, refl, sym, ap, ap₂, _∙_}
+use mathlib.Core.Bool.{Bool, true, false, not, _||_}
+use mathlib.Core.List.{List, [], _∷_, _++_}
+use mathlib.Core.Option.{Option, none, some, Option·none-ne-some}
+use Prim.Native.Nat.{ℕ, zero, suc, _+_, _*_, _/_, _%_, _<_, _≤_}
+use native.Mathlib.Nat.{lt-irrefl, add-zero, div-add-mod', mul-mod-left}
+use lib.Dec.{leb}
+use lib.ListN.{length}
+use Rattle.meaning.specs.Refusal.{isPrime, noPrime, noSize, noMatrix, noRows, noVector, noPolynomial, badEntry, tooShort, first, inverseRefusal, orderRefusal, imageRefusal}
+use Rattle.meaning.proofs.Refusal.{noSize-false, noRows-false, first-none}
+use Rattle.refusals.specs.Numbers.{numberOf, due, earlier}
+
+pub applies : (b : Bool) → ¬ (b ≡ false) → b ≡ true
+applies true h = refl
+applies false h = absurd (h refl)
+
+pub prime-told : {b t : Bool} (p : ℕ) → b ≡ isPrime p → b ≡ t → noPrime p ≡ not t
+unfolding noPrime
+prime-told p e h = ap not (sym e ∙ h)
+
+pub due-here : {k : ℕ} {b : Bool} → b ≡ true → k ≡ due k b
+unfolding due
+due-here e = rw e
+
+pub due-passed : (k : ℕ) {b : Bool} → b ≡ false → 0 ≡ due k b
+unfolding due
+due-passed k e = rw e
+
+pub earlier-next : (a b : ℕ) → a ≡ 0 → b ≡ earlier a b
+unfolding earlier
+earlier-next a b e = rw e
+
+pub earlier-kept : (a b : ℕ) → ¬ (a ≡ 0) → a ≡ earlier a b
+unfolding earlier
+earlier-kept zero b h = absurd (h refl)
+earlier-kept (suc a) b h = refl
+
+-- the tests one by one
+pub first-here : (k : ℕ) (b : Bool) (ts : List (ℕ × Bool)) → b ≡ true → first ((k, b) ∷ ts) ≡ some k
+unfolding first
+first-here k b ts e = rw e
+
+pub first-next : (k : ℕ) (b : Bool) (ts : List (ℕ × Bool)) → b ≡ false → first ((k, b) ∷ ts) ≡ first ts
+unfolding first
+first-next k b ts e = rw e
+
+pub first-end : first [] ≡ none
+unfolding first
+first-end = refl
+
+-- the tests in two parts
+pub first-front : {k : ℕ} (ts us : List (ℕ × Bool)) → first ts ≡ some k → first (ts ++ us) ≡ some k
+unfolding first
+first-front {k} [] us e = absurd (Option·none-ne-some k e)
+first-front ((j, true) ∷ ts) us e = e
+first-front ((j, false) ∷ ts) us e = first-front ts us e
+
+pub first-past : (ts us : List (ℕ × Bool)) → first ts ≡ none → first (ts ++ us) ≡ first us
+unfolding first
+first-past [] us e = refl
+first-past ((j, true) ∷ ts) us e = absurd (Option·none-ne-some j (sym e))
+first-past ((j, false) ∷ ts) us e = first-past ts us e
+
+-- n is in its bounds where test 2 does not apply
+pub size-told : (p n : ℕ) (ts : List (ℕ × Bool)) → first ((1, noPrime p) ∷ (2, noSize n) ∷ ts) ≡ none → (1 ≤ n) × (n ≤ 64)
+size-told p n ts q = noSize-false n (first-none _ _ _ (first-none _ _ _ q .1) .0)
+
+pub rows-over : (n : ℕ) (cs : List ℕ) → 0 < n → noRows n cs ≡ false → length cs % n ≡ 0
+rows-over n cs h q = ap (λ l. l % n) (noRows-false n cs h q .0) ∙ mul-mod-left (length cs / n) n
+
+pub rows-whole : (n : ℕ) (cs : List ℕ) → length cs % n ≡ 0 → length cs ≡ length cs / n * n
+rows-whole n cs e = sym (div-add-mod' (length cs) n) ∙ ap (λ r. length cs / n * n + r) e ∙ add-zero _
+
+-- numbers, 0 for none
+pub number-some : {k : ℕ} (q : Option ℕ) → q ≡ some k → k ≡ numberOf q
+number-some q e = rw e
+
+pub number-none : (q : Option ℕ) → q ≡ none → 0 ≡ numberOf q
+number-none q e = rw e
+
+pub some-number : {k : ℕ} (q : Option ℕ) → k ≡ numberOf q → ¬ (k ≡ 0) → q ≡ some k
+some-number none e h = absurd (h e)
+some-number (some j) e h = ap some (sym e)
+
+abbrev pub Numbered : List (ℕ × Bool) → Type 0
+Numbered [] = Unit {0}
+Numbered (t ∷ ts) = (0 < t .0) × Numbered ts
+
+pub none-number : (ts : List (ℕ × Bool)) → Numbered ts → 0 ≡ numberOf (first ts) → first ts ≡ none
+unfolding first
+none-number [] h e = refl
+none-number ((k, true) ∷ ts) h e = absurd (lt-irrefl 0 (rw (sym e) at (h .0)))
+none-number ((k, false) ∷ ts) h e = none-number ts (h .1) e
+
+-- the number of a list of tests
+pub number-last : (k : ℕ) (b : Bool) → numberOf (first ((k, b) ∷ [])) ≡ due k b
+unfolding first due
+number-last k true = refl
+number-last k false = refl
+
+pub number-step : (k : ℕ) (b : Bool) (ts : List (ℕ × Bool)) → numberOf (first ((suc k, b) ∷ ts)) ≡ earlier (due (suc k) b) (numberOf (first ts))
+unfolding first due earlier
+number-step k true ts = refl
+number-step k false ts = refl
+
+pub due-or : (k : ℕ) (a b : Bool) → due (suc k) (a || b) ≡ earlier (due (suc k) a) (due (suc k) b)
+unfolding due earlier
+due-or k true b = refl
+due-or k false b = refl
+
+pub inverse-number : (p a : ℕ) → numberOf (inverseRefusal p a) ≡ earlier (due 1 (noPrime p)) (due 5 (leb p a))
+unfolding inverseRefusal
+inverse-number p a = number-step 0 _ _ ∙ ap (earlier _) (number-last 5 _)
+
+pub order-number : (p n : ℕ) (m v out : List ℕ) → first ((1, noPrime p) ∷ (2, noSize n) ∷ (3, noMatrix n m) ∷ []) ≡ none
+    → numberOf (orderRefusal p n m v out)
+    ≡ earlier (due 4 (noVector n v)) (earlier (earlier (due 5 (badEntry p m)) (due 5 (badEntry p v))) (due 6 (tooShort (n + 1) out)))
+unfolding orderRefusal
+order-number p n m v out q =
+    ap numberOf (first-past _ _ q) ∙ number-step 3 _ _
+    ∙ ap (earlier _) (number-step 4 _ _ ∙ ap₂ earlier (due-or 4 (badEntry p m) (badEntry p v)) (number-last 6 _))
+
+pub image-number : (p n : ℕ) (m v f out : List ℕ) → first ((1, noPrime p) ∷ (2, noSize n) ∷ (3, noMatrix n m) ∷ []) ≡ none
+    → numberOf (imageRefusal p n m v f out)
+    ≡ earlier (due 4 (noVector n v)) (earlier (due 7 (noPolynomial f))
+    (earlier (earlier (due 5 (badEntry p m)) (earlier (due 5 (badEntry p v)) (due 5 (badEntry p f)))) (due 6 (tooShort n out))))
+unfolding imageRefusal
+image-number p n m v f out q =
+    ap numberOf (first-past _ _ q) ∙ number-step 3 _ _
+    ∙ ap (earlier _) (number-step 6 _ _
+    ∙ ap (earlier _) (number-step 4 _ _
+    ∙ ap₂ earlier (due-or 4 (badEntry p m) _ ∙ ap (earlier _) (due-or 4 (badEntry p v) (badEntry p f))) (number-last 6 _)))
+
+pub list-number : (p n : ℕ) (m cs : List ℕ) → first ((1, noPrime p) ∷ (2, noSize n) ∷ (3, noMatrix n m) ∷ []) ≡ none
+    → numberOf (first ((1, noPrime p) ∷ (2, noSize n) ∷ (3, noMatrix n m) ∷ (4, noRows n cs) ∷ (5, badEntry p m || badEntry p cs) ∷ []))
+    ≡ earlier (due 4 (noRows n cs)) (earlier (due 5 (badEntry p m)) (due 5 (badEntry p cs)))
+list-number p n m cs q =
+    ap numberOf (first-past ((1, noPrime p) ∷ (2, noSize n) ∷ (3, noMatrix n m) ∷ []) _ q) ∙ number-step 3 _ _
+    ∙ ap (earlier _) (number-last 5 _ ∙ due-or 4 (badEntry p m) (badEntry p cs))
+
+pub buffers-number : (ts : List (ℕ × Bool)) (a b : Bool) → first ts ≡ none → numberOf (first (ts ++ (6, a || b) ∷ [])) ≡ earlier (due 6 a) (due 6 b)
+buffers-number ts a b q = ap numberOf (first-past ts _ q) ∙ number-last 6 _ ∙ due-or 5 a b

@@ -1,0 +1,30 @@
+-- `refusals::candidates` meets its contract. Assumes nothing.
+use Prim.Native.Nat.{_/_, _≤_}
+use native.Mathlib.Omega.{arith}
+use lib.ListN.{length}
+use borrow.Author.Needs.{needs}
+use Rattle.meaning.proofs.Refusal.{noRows-false, rows-noRows}
+use Rattle.refusals.proofs.Laws.{applies, due-here, due-passed, rows-over, rows-whole}
+use Rattle.refusals.proofs.candidates.Statement.{statement}
+use Rattle.refusals.proofs.candidates.Tie as tie
+
+rem-if1 : tie.Need-rem-if1
+rem-if1 c = search needs
+
+returns : tie.Need-returns
+returns c = due-here (applies _ (λ q. c .if1 .taken (rows-over _ _ (omega arith) q)))
+
+div-if2 : tie.Need-div-if2
+div-if2 c = search needs
+
+returns-2 : tie.Need-returns-2
+returns-2 c = due-here (applies _ (λ q. omega (arith, noRows-false _ _ (omega arith) q)))
+
+returns-3 : tie.Need-returns-3
+returns-3 c =
+    let x = c .before .before .args in
+    let few : length (x .cs .now) / x .n ≤ 128 = omega arith in
+    due-passed 4 (rows-noRows (x .n) (x .cs .now) (omega arith) _ (rows-whole (x .n) (x .cs .now) (c .before .if1 .left)) few)
+
+pub candidates-spec : {M : Type 1} → statement M
+candidates-spec = tie.close (tie.spec rem-if1 returns div-if2 returns-2 returns-3)

@@ -1,0 +1,17 @@
+-- `refusals::prime` meets its contract: the code's prime test is that of the refusal table. Assumes nothing.
+use borrow.Author.Needs.{needs}
+use Rattle.refusals.proofs.Laws.{prime-told, due-here, due-passed}
+use Rattle.refusals.proofs.prime.Statement.{statement}
+use Rattle.refusals.proofs.prime.Tie as tie
+
+is-prime-requires : tie.Need-is-prime-requires
+is-prime-requires c κs = search needs
+
+returns : tie.Need-returns
+returns c = due-passed 1 (prime-told _ (c .before .is-prime .ensures) (c .if1 .taken))
+
+returns-2 : tie.Need-returns-2
+returns-2 c = due-here (prime-told _ (c .before .is-prime .ensures) (c .if1 .left))
+
+pub prime-spec : {M : Type 1} → statement M
+prime-spec = tie.close (tie.spec is-prime-requires returns returns-2)
