@@ -1,5 +1,7 @@
 // Reads one case on standard input and prints its data sheet: the stand, the chain and the period; or the place where the file stops being a
 // well-formed case. Nothing is printed before the whole file is accepted. Everything that is found comes from the proved libraries.
+ghost use Prim.Native.Nat.{_≤_};
+ghost use lib.ListN.{length};
 use calls::{Chained, Counts, Perioded, Stood};
 use casefile::Reading;
 use libc::STDIN_FILENO;
@@ -18,7 +20,9 @@ fn show_counts(c: Counts) {
 }
 
 // How many of the coefficients there are up to the last that is not zero, which is a monic polynomial's leading 1.
-fn size(c: &[u8]) -> usize {
+fn size(c: &[u8]) -> usize
+    ensures { λ r. ⌜ r ≤ length (now (c .entry)) ⌝ }
+{
     let mut k = c.len();
     while 0 < k {
         if c[k - 1] != 0 {
@@ -29,20 +33,22 @@ fn size(c: &[u8]) -> usize {
     0
 }
 
-fn show_polynomial(c: &[u8]) {
-    lines::print_list(&c[..size(c)]);
+// The first k numbers, to the end of the line.
+fn show_front(s: &[u8], k: usize)
+    requires { ⌜ k ≤ length (now s) ⌝ }
+{
+    lines::print_list(&s[..k]);
     lines::end_line();
 }
 
-fn show_witness(w: usize, image: &[u8]) {
-    lines::print(b"WITNESS");
-    lines::print_number(w as u64);
-    lines::print_list(image);
-    lines::end_line();
+fn show_polynomial(c: &[u8]) {
+    show_front(c, size(c));
 }
 
 // A well-formed case is refused by no call, so the last arm prints nothing.
-fn show_stand(p: u32, n: usize, m: &[u8], cs: &[u8], allowance: u32) {
+fn show_stand(p: u32, n: usize, m: &[u8], cs: &[u8], allowance: u32)
+    requires { ⌜ n ≤ 64 ⌝ }
+{
     let mut poly = [0u8; 65];
     let mut image = [0u8; 64];
     let answer = calls::stand(p, n, m, cs, allowance, &mut poly, &mut image);
@@ -59,7 +65,9 @@ fn show_stand(p: u32, n: usize, m: &[u8], cs: &[u8], allowance: u32) {
             show_counts(c);
             lines::print(b"DIVISOR");
             show_polynomial(&poly);
-            show_witness(w, &image[..n]);
+            lines::print(b"WITNESS");
+            lines::print_number(w as u64);
+            show_front(&image, n);
         }
         Stood::Refused(_) => {}
     }
@@ -72,7 +80,10 @@ fn show_stages(stages: &[u8]) {
     while at < stages.len() {
         let from = at + 1;
         let to = from + stages[at] as usize;
-        if to == from || stages.len() < to {
+        if to == from {
+            return;
+        }
+        if stages.len() < to {
             return;
         }
         lines::print(b"STAGE");
@@ -111,7 +122,9 @@ fn show_period(p: u32, n: usize, m: &[u8]) {
     }
 }
 
-fn show_sheet(p: u32, n: usize, m: &[u8], cs: &[u8], allowance: u32) {
+fn show_sheet(p: u32, n: usize, m: &[u8], cs: &[u8], allowance: u32)
+    requires { ⌜ n ≤ 64 ⌝ }
+{
     show_field(p, n);
     show_stand(p, n, m, cs, allowance);
     show_chain(p, n, m, cs);

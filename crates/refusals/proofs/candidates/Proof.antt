@@ -12,7 +12,9 @@ rem-if1 : tie.Need-rem-if1
 rem-if1 c = search needs
 
 returns : tie.Need-returns
-returns c = due-here (applies _ (λ q. c .if1 .taken (rows-over _ _ (omega arith) q)))
+returns c =
+    let x = c .before .args in
+    due-here (applies _ (λ q. omega (arith, rows-over (x .n) (x .cs .now) (omega arith) q)))
 
 div-if2 : tie.Need-div-if2
 div-if2 c = search needs
