@@ -3,75 +3,34 @@
 //!
 //!     cargo run --release --manifest-path rust/Cargo.toml --bin leaves < crates/leaves/stdin > crates/leaves/stdout
 //!
-//! A line is a word, then decimal numbers in groups that are separated by `|`; the modulus follows the word, and `k*x` stands for k numbers x.
-//! Comment lines begin with `#` and are printed as they are, and so are empty ones. For any other line the word and the answer are printed, or
-//! `refused` where the arguments are not what the function asks for.
+//! The modulus follows the word. For each line the word and the answer are printed, or `refused` where the arguments are not what the function
+//! asks for.
+use kinarsop::lines::{self, list, Line};
 use kinarsop::naive::{self, Matrix, Poly};
-use std::io::Read;
 
-struct Line<'a> {
-    word: &'a str,
-    groups: Vec<Vec<u64>>,
+/// The modulus, if it is a byte above 0.
+fn modulus(line: &Line) -> Option<u64> {
+    Some(line.number(0)).filter(|p| (1..=255).contains(p))
 }
 
-impl<'a> Line<'a> {
-    fn parse(text: &'a str) -> Self {
-        let (word, rest) = text.split_once(' ').unwrap_or((text, ""));
-        let groups = rest.split('|').map(numbers).collect();
-        Line { word, groups }
-    }
-
-    fn group(&self, k: usize) -> &[u64] {
-        self.groups.get(k).map_or(&[], Vec::as_slice)
-    }
-
-    /// A group's first number, or 0.
-    fn number(&self, k: usize) -> u64 {
-        self.group(k).first().copied().unwrap_or(0)
-    }
-
-    /// The modulus, if it is a byte above 0.
-    fn modulus(&self) -> Option<u64> {
-        Some(self.number(0)).filter(|p| (1..=255).contains(p))
-    }
-
-    fn prime(&self) -> Option<u64> {
-        Some(self.number(0)).filter(|&p| naive::is_prime(p))
-    }
-
-    /// A polynomial of 1 to 65 coefficients, leading zeros allowed.
-    fn poly(&self, p: u64, k: usize) -> Option<Poly> {
-        let c = self.group(k);
-        let fine = (1..=65).contains(&c.len()) && naive::first_bad(p, c).is_none();
-        fine.then(|| naive::trim(p, c))
-    }
-
-    /// A row of at most 64 entries and a square matrix of its size.
-    fn row_and_matrix(&self, row: usize, matrix: usize) -> Option<(&[u64], Matrix)> {
-        let v = self.group(row);
-        let m = self.group(matrix);
-        let n = v.len();
-        let fine = n <= 64 && m.len() == n * n;
-        fine.then(|| (v, (0..n).map(|i| m[i * n..(i + 1) * n].to_vec()).collect()))
-    }
+fn prime(line: &Line) -> Option<u64> {
+    Some(line.number(0)).filter(|&p| naive::is_prime(p))
 }
 
-/// The numbers of a group.
-fn numbers(text: &str) -> Vec<u64> {
-    let number = |s: &str| s.parse().unwrap_or_else(|_| panic!("{s} is no number"));
-    let mut list = vec![];
-    for token in text.split_whitespace() {
-        match token.split_once('*') {
-            Some((count, x)) => list.extend((0..number(count)).map(|_| number(x))),
-            None => list.push(number(token)),
-        }
-    }
-    list
+/// A polynomial of 1 to 65 coefficients, leading zeros allowed.
+fn operand(line: &Line, p: u64, k: usize) -> Option<Poly> {
+    let c = line.group(k);
+    let fine = (1..=65).contains(&c.len()) && naive::first_bad(p, c).is_none();
+    fine.then(|| naive::trim(p, c))
 }
 
-fn list(numbers: &[u64]) -> String {
-    let words: Vec<String> = numbers.iter().map(u64::to_string).collect();
-    words.join(" ")
+/// A row of at most 64 entries and a square matrix of its size.
+fn row_and_matrix<'a>(line: &'a Line, row: usize, matrix: usize) -> Option<(&'a [u64], Matrix)> {
+    let v = line.group(row);
+    let m = line.group(matrix);
+    let n = v.len();
+    let fine = n <= 64 && m.len() == n * n;
+    fine.then(|| (v, (0..n).map(|i| m[i * n..(i + 1) * n].to_vec()).collect()))
 }
 
 /// The coefficients up to the degree; 0 for the zero polynomial.
@@ -88,16 +47,16 @@ fn degree(f: &[u64]) -> usize {
 fn answer(line: &Line) -> Option<String> {
     let (a, b) = (line.number(1), line.number(2));
     Some(match line.word {
-        "prime" => if line.prime().is_some() { "yes" } else { "no" }.to_string(),
-        "sum" => ((a + b) % line.modulus()?).to_string(),
+        "prime" => if prime(line).is_some() { "yes" } else { "no" }.to_string(),
+        "sum" => ((a + b) % modulus(line)?).to_string(),
         "difference" => {
-            let p = line.modulus()?;
+            let p = modulus(line)?;
             ((a + p * 255 - b) % p).to_string()
         }
-        "opposite" => naive::opposite(line.modulus()?, a).to_string(),
-        "product" => (a * b % line.modulus()?).to_string(),
+        "opposite" => naive::opposite(modulus(line)?, a).to_string(),
+        "product" => (a * b % modulus(line)?).to_string(),
         "inverse" => {
-            let p = line.prime().filter(|&p| a < p)?;
+            let p = prime(line).filter(|&p| a < p)?;
             naive::inverse(p, a).to_string()
         }
         "bad" => match naive::first_bad(line.number(0), line.group(1)) {
@@ -105,18 +64,18 @@ fn answer(line: &Line) -> Option<String> {
             None => "none".to_string(),
         },
         "advance" => {
-            let p = line.modulus()?;
-            let (v, m) = line.row_and_matrix(2, 1)?;
+            let p = modulus(line)?;
+            let (v, m) = row_and_matrix(line, 2, 1)?;
             list(&naive::times_matrix(p, v, &m))
         }
         "image" => {
-            let p = line.modulus()?;
-            let (v, m) = line.row_and_matrix(3, 1)?;
+            let p = modulus(line)?;
+            let (v, m) = row_and_matrix(line, 3, 1)?;
             let f = Some(line.group(2)).filter(|f| (1..=65).contains(&f.len()))?;
             list(&naive::image(p, v, f, &m))
         }
         "dot" => {
-            let p = line.modulus()?;
+            let p = modulus(line)?;
             let (u, v) = (line.group(1), line.group(2));
             if 64 < u.len() || u.len() != v.len() {
                 return None;
@@ -128,15 +87,15 @@ fn answer(line: &Line) -> Option<String> {
 }
 
 fn polynomial_answer(line: &Line) -> Option<String> {
-    let p = line.prime()?;
-    let f = line.poly(p, 1)?;
+    let p = prime(line)?;
+    let f = operand(line, p, 1)?;
     match line.word {
         "scale" => return Some(poly(&naive::scale(p, line.number(2), &f))),
         "monic" => return Some(poly(&naive::make_monic(p, &f))),
         "size" => return Some(f.len().to_string()),
         _ => {}
     }
-    let g = line.poly(p, 2)?;
+    let g = operand(line, p, 2)?;
     Some(match line.word {
         "shifted" => {
             let (k, s) = (line.number(3), line.number(4) as usize);
@@ -174,17 +133,5 @@ fn polynomial_answer(line: &Line) -> Option<String> {
 }
 
 fn main() {
-    let mut text = String::new();
-    std::io::stdin()
-        .read_to_string(&mut text)
-        .expect("the lines are text");
-    for text in text.lines() {
-        if text.is_empty() || text.starts_with('#') {
-            println!("{text}");
-            continue;
-        }
-        let line = Line::parse(text);
-        let answer = answer(&line).unwrap_or_else(|| "refused".to_string());
-        println!("{}", format!("{} {}", line.word, answer).trim_end());
-    }
+    lines::answer_all(|line| answer(line).unwrap_or_else(|| "refused".to_string()));
 }
