@@ -100,7 +100,15 @@ pub fn image(p: u32, n: usize, m: &[u8], v: &[u8], f: &[u8], out: &mut [u8]) -> 
 // The stand: rows are taken from the front while the allowance pays for their products, and the least common multiple of their orders is marked
 // proved where every unit row is sent to zero. Its n + 1 coefficients go to the front of `poly`, the n entries of the witness's image, or zeros, to
 // that of `image`.
-pub fn stand(p: u32, n: usize, m: &[u8], cs: &[u8], allowance: u32, poly: &mut [u8], image: &mut [u8]) -> Stood
+pub fn stand(
+    p: u32,
+    n: usize,
+    m: &[u8],
+    cs: &[u8],
+    allowance: u32,
+    poly: &mut [u8],
+    image: &mut [u8],
+) -> Stood
     ensures { λ r. ⌜ StandCall p n (now (m .entry)) (now (cs .entry)) allowance (now (poly .entry), now (image .entry)) (stoodOf r) (now (poly .exit), now (image .exit)) ⌝ }
 {
     let bad = refusals::of_stand(p, n, m, cs, poly, image);
@@ -129,7 +137,14 @@ pub fn stand(p: u32, n: usize, m: &[u8], cs: &[u8], allowance: u32, poly: &mut [
 
 // The chain of relative orders over the candidates in order, then the unit rows in order. The n + 1 coefficients of the stages' product go to the
 // front of `product`; the stage record, zeros behind it up to 2n bytes, to that of `stages`.
-pub fn chain(p: u32, n: usize, m: &[u8], cs: &[u8], product: &mut [u8], stages: &mut [u8]) -> Chained
+pub fn chain(
+    p: u32,
+    n: usize,
+    m: &[u8],
+    cs: &[u8],
+    product: &mut [u8],
+    stages: &mut [u8],
+) -> Chained
     ensures { λ r. ⌜ ChainCall p n (now (m .entry)) (now (cs .entry)) (now (product .entry), now (stages .entry)) (chainedOf r) (now (product .exit), now (stages .exit)) ⌝ }
 {
     let bad = refusals::of_chain(p, n, m, cs, product, stages);

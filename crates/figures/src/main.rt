@@ -1,9 +1,11 @@
 // Makes the call that each line of standard input names and prints the line's word, the answer, and every lent buffer whole, as it is after the
 // call. Comment lines, which begin with `#`, and empty ones are printed as they are. At most 65,536 bytes are read.
+mod chain;
 mod image;
 mod inverse;
 mod order;
 mod period;
+mod stand;
 
 use libc::STDIN_FILENO;
 
@@ -46,6 +48,14 @@ fn answer(line: &[u8]) {
     }
     if lines::named(line, b"image") {
         image::answer(line);
+        return;
+    }
+    if lines::named(line, b"stand") {
+        stand::answer(line);
+        return;
+    }
+    if lines::named(line, b"chain") {
+        chain::answer(line);
         return;
     }
     if lines::named(line, b"period") {

@@ -2,7 +2,10 @@
 // well-formed case. Nothing is printed before the whole file is accepted. Everything that is found comes from the proved libraries.
 ghost use Prim.Native.Nat.{_≤_};
 ghost use lib.ListN.{length};
-use calls::{Chained, Counts, Perioded, Stood};
+use calls::Chained;
+use calls::Counts;
+use calls::Perioded;
+use calls::Stood;
 use casefile::Reading;
 use libc::STDIN_FILENO;
 
@@ -143,7 +146,12 @@ fn run(text: &[u8]) {
     let mut cs = [0u8; 8192];
     let answer = casefile::read(text, &mut m, &mut cs);
     match answer {
-        Reading::Case { p, n, allowance, count } => {
+        Reading::Case {
+            p,
+            n,
+            allowance,
+            count,
+        } => {
             let entries = n * n;
             let bytes = count * n;
             show_sheet(p, n, &m[..entries], &cs[..bytes], allowance);
