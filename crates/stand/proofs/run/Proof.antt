@@ -1,76 +1,76 @@
+-- `stand::run` keeps within its buffers: they hold the matrix and the candidates of any case. Assumes nothing.
+use mathlib.Core.Path.{_≡_, sym}
+use Prim.Native.Nat.{_*_, _≤_}
+use native.Mathlib.Omega.{arith}
+use lib.ListN.{length}
+use lib.Seq.{length-take-le}
 use borrow.Author.Needs.{needs}
+use Rattle.stand.proofs.Laws.{case-within, square-fits, rows-fit}
 use Rattle.stand.proofs.run.Statement.{statement}
 use Rattle.stand.proofs.run.Tie as tie
-use Rattle.stand.proofs.run.Reads as reads
-use Rattle.stand.proofs.run.Lts as lts
-use Rattle.casefile.proofs.read.Reads as read-reads
-use Rattle.stand.proofs.show_refusal.Reads as show-refusal-reads
-use Rattle.stand.proofs.show_sheet.Reads as show-sheet-reads
 
--- src/main.rt:144:39
+-- the values of the case are in their bounds
+within : (c : tie.After-known-told) → (c .before .answer .given .0 .1 .0 ≤ 64) × (c .before .answer .given .0 .1 .1 .1 .0 ≤ 128)
+within c = case-within _ (c .before .before .before .before .before .read .ensures) (c .before .answer .given .1)
+
+-- so they lie within the buffers
+room : (c : tie.After-known-told) → let x = c .before .answer .given .0 in
+    (x .1 .0 * x .1 .0 ≤ length (c .before .before .before .before .before .read .last .1 .0))
+    × (x .1 .1 .1 .0 * x .1 .0 ≤ length (c .before .before .before .before .before .read .last .1 .1 .0))
+room c =
+    let R = c .before .before .before .before .before in
+    let m : length (R .read .last .1 .0) ≡ 4096 = search needs in
+    let cs : length (R .read .last .1 .1 .0) ≡ 8192 = search needs in
+    (omega (arith, square-fits (within c .0)), omega (arith, rows-fit (within c .0) (within c .1)))
+
 slice-aggregate-read : tie.Need-slice-aggregate-read
 slice-aggregate-read c = search needs
 
--- src/main.rt:144:47
 slice-aggregate-read-2 : tie.Need-slice-aggregate-read-2
 slice-aggregate-read-2 c = search needs
 
--- src/main.rt:144:9
 read-requires : tie.Need-read-requires
 read-requires c κs = search needs
 
--- src/main.rt:146:25
 enum-known-answer : tie.Need-enum-known-answer
 enum-known-answer c = search needs
 
--- src/main.rt:147:27
 mul-entries : tie.Need-mul-entries
-mul-entries c = ?
+mul-entries c = omega (arith, square-fits (within c .0))
 
--- src/main.rt:148:25
 mul-bytes : tie.Need-mul-bytes
-mul-bytes c = ?
+mul-bytes c = omega (arith, rows-fit (within c .0) (within c .1))
 
--- src/main.rt:149:30
 array-share-prefix-m : tie.Need-array-share-prefix-m
-array-share-prefix-m c = ?
+array-share-prefix-m c = omega (arith, room c .0)
 
--- src/main.rt:149:30
 slice-aggregate-show-sheet : tie.Need-slice-aggregate-show-sheet
-slice-aggregate-show-sheet c = ?
+slice-aggregate-show-sheet c = sym (length-take-le _ _ (room (c .before) .0))
 
--- src/main.rt:149:45
 array-share-prefix-cs : tie.Need-array-share-prefix-cs
-array-share-prefix-cs c = ?
+array-share-prefix-cs c = omega (arith, room (c .before) .1)
 
--- src/main.rt:149:45
 slice-aggregate-show-sheet-2 : tie.Need-slice-aggregate-show-sheet-2
-slice-aggregate-show-sheet-2 c = ?
+slice-aggregate-show-sheet-2 c = sym (length-take-le _ _ (room (c .before .before) .1))
 
--- src/main.rt:149:13
 show-sheet-requires : tie.Need-show-sheet-requires
-show-sheet-requires c κs = ?
+show-sheet-requires c κs = within (c .before .before) .0
 
 enum-told : tie.Need-enum-told
 enum-told c = search needs
 
--- src/main.rt:152:26
 enum-known-answer-2 : tie.Need-enum-known-answer-2
 enum-known-answer-2 c = search needs
 
--- src/main.rt:152:36
 show-refusal-requires : tie.Need-show-refusal-requires
 show-refusal-requires c κs = search needs
 
--- src/main.rt:141:1
 returns : tie.Need-returns
 returns c = search needs
 
--- src/main.rt:141:1
 returns-2 : tie.Need-returns-2
 returns-2 c = search needs
 
--- src/main.rt:141:1
 returns-3 : tie.Need-returns-3
 returns-3 c = search needs
 
