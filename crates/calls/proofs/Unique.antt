@@ -64,10 +64,10 @@ given-counts : (c d : Counts) (x y : Outcome) → c .degree ≡ x .degree → c 
     → d .taken ≡ y .taken → d .spent ≡ y .spent → x ≡ y → c ≡ d
 given-counts c d x y a b q e f g z = counts-path c d (a ∙ ap (λ o. o .degree) z ∙ sym e) (b ∙ ap (λ o. o .taken) z ∙ sym f) (q ∙ ap (λ o. o .spent) z ∙ sym g)
 
-proved-short : ¬ (proved ≡ short)
+pub proved-short : ¬ (proved ≡ short)
 proved-short e = let z : _≡_ {A = ℕ} 0 1 = cc in omega arith
 
-stood-only : (r s : Stood) → stoodOf r ≡ stoodOf s → r ≡ s
+pub stood-only : (r s : Stood) → stoodOf r ≡ stoodOf s → r ≡ s
 stood-only (stood.Proved c) (stood.Proved d) e = ap stood.Proved (given-counts c d _ _ refl refl refl refl refl refl (given-only _ _ e))
 stood-only (stood.Proved c) (stood.Short d w) e = absurd (proved-short (ap (λ o. o .standing) (given-only _ _ e)))
 stood-only (stood.Proved c) (stood.Refused k) e = absurd (apart k _ (sym e))
