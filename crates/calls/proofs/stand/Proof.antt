@@ -7,7 +7,7 @@ use native.Mathlib.Omega.{arith}
 use borrow.Author.Needs.{needs}
 use lib.ListN.{length, take, length-take}
 use lib.Seq.{length-take-le}
-use Rattle.meaning.specs.Bytes.{rows}
+use Rattle.meaning.specs.Bytes.{times, rows}
 use Rattle.meaning.specs.Refusal.{standRefusal}
 use Rattle.meaning.specs.Stand.{Standing, proved, short}
 use Rattle.meaning.specs.Calls.{StandResult}
@@ -15,6 +15,7 @@ use Rattle.meaning.proofs.Bytes.{rows-below}
 use Rattle.meaning.proofs.Degrees.{below-take}
 use Rattle.meaning.proofs.Refusal.{stand-sound}
 use Rattle.promises.specs.Run.{standingOf}
+use Rattle.poly.specs.Polynomial.{po}
 use Rattle.taking.specs.Taking.{Killing}
 use Rattle.refusals.proofs.Laws.{some-number, none-number}
 use Rattle.calls.proofs.Laws.{refused-by, given-by, tested-within, standing-proved, standing-short, stand-written}
@@ -70,7 +71,11 @@ witness-requires c κs =
 witness-row-requires : tie.Need-witness-row-requires
 witness-row-requires c κs =
     let S = stand-sound _ _ _ _ _ _ (taken (c .before .before .before)) in
-    (S .0 .prime, (S .0 .size, (S .0 .matrix, (c .before .before .take-rows .ensures .good, tested-within _ _ _ _ (c .witness .ensures)))))
+    let x = start (c .before .before .before) .args in
+    let f = c .before .before .take-rows .result .poly in
+    let w = c .witness .result in
+    let h : w ≤ x .n = tested-within (times (x .p) (x .n) (x .m .now)) (x .n) (po (x .p) f) w (c .witness .ensures) in
+    (S .0 .prime, (S .0 .size, (S .0 .matrix, (c .before .before .take-rows .ensures .good, omega arith))))
 
 -- the coefficients, the image and the buffers have their places
 room : (c : tie.After-witness-row) → let x = start (c .before .before .before .before) .args in
