@@ -2,7 +2,7 @@
 --   refused-by, given-by   a call that is refused, and one that gives a result
 --   inverse-given  the code's inverse is the inverse
 --   front-write    a buffer whose front was written
---   front-bytes, coefficient-bytes   the front of bytes below p, as the bytes of their row or of their polynomial's coefficients
+--   coefficient-bytes   the front of bytes below p, as the bytes of their polynomial's coefficients
 --   image-written, order-written   a buffer with the image, and with the order, at its front
 --   taken-common   the least polynomial that sends the taken rows to zero is the lcm of their orders
 --   tested-within  the witness is one of the n unit rows
@@ -18,13 +18,11 @@ use Prim.Native.Nat.{ℕ, zero, suc, _+_, _*_, _<_, _≤_}
 use native.Mathlib.Nat.{sub-zero, suc-sub-suc}
 use native.Mathlib.Numerals.{add-one}
 use native.Mathlib.Omega.{arith}
-use lib.ListN.{length, getD, take, drop, replicate}
-use lib.Seq.{ext-getD, getD-take, length-take-le}
+use lib.ListN.{length, take, drop}
 use Rattle.algebra.specs.Field.{Prime, fp, inv}
 use Rattle.algebra.specs.Row.{S}
 use Rattle.algebra.specs.Poly.{Poly, coef, Least}
 use Rattle.algebra.specs.Orders.{Order, Orders, polys, KillsAll, product}
-use Rattle.algebra.proofs.Field.{val-fp}
 use Rattle.algebra.proofs.Poly.{least-same}
 use Rattle.algebra.proofs.Orders.{multiples-kill, kills-multiples}
 use Rattle.meaning.specs.Bytes.{Small, row, polyOf, rows, times, bytes, write, padded}
@@ -33,7 +31,7 @@ use Rattle.meaning.specs.Stand.{sum, degs, Front, proved, short, Tested, Outcom
 use Rattle.meaning.specs.Chain.{IsChain, stageBytes}
 use Rattle.meaning.specs.Calls.{refused, given, Called, OrderResult, StandResult, ChainResult}
 use Rattle.meaning.specs.Period.{IsInverse}
-use Rattle.meaning.proofs.Bytes.{small-at, bytes-length, bytes-at, polyOf-coef, times-machine, times-linear, rows-below}
+use Rattle.meaning.proofs.Bytes.{bytes-length, polyOf-coef, times-machine, times-linear, rows-below, front-bytes, take-zeros}
 use Rattle.meaning.proofs.Unique.{least-lcm}
 use Rattle.meaning.proofs.Degrees.{orders-take, chain-record}
 use Rattle.promises.specs.Run.{inverseOf, standingOf, standOrders}
@@ -69,16 +67,6 @@ pub image-written : {part : List ℕ} (p n : ℕ) (m v f old : List ℕ) → len
     → part ++ drop n old ≡ write (bytes n (image p n m (polyOf p f) (row p v))) old
 image-written p n m v f old q e =
     front-write old (e ∙ ap (λ k. bytes k (image p k m (polyOf p f) (row p v))) q) (bytes-length n _)
-
-front-bytes : (p k : ℕ) (l : List ℕ) → Small p l → k ≤ length l → take k l ≡ bytes k (row p l)
-unfolding row
-front-bytes p k l s h =
-    ext-getD 0 (take k l) (bytes k (row p l)) (long ∙ sym (bytes-length k (row p l))) (λ i j.
-    let b : i < k = rw long at j in
-    getD-take k l i 0 b ∙ sym (val-fp p (getD l i 0) (small-at p l s i (omega arith))) ∙ sym (bytes-at k (row p l) i b))
-  where
-    long : length (take k l) ≡ k
-    long = length-take-le k l h
 
 coefficient-bytes : (p n : ℕ) (c : List ℕ) → Small p c → n + 1 ≤ length c → take (n + 1) c ≡ bytes (suc n) (coef (polyOf p c))
 coefficient-bytes p n c s h = front-bytes p (n + 1) c s h ∙ ap₂ bytes (add-one n) (sym (polyOf-coef p c))
@@ -134,11 +122,6 @@ stand-written p n m cs a c r old P A s F w q u T h l e b k =
     }
 
 -- zeros behind the stage record
-take-zeros : (k j : ℕ) → k ≤ j → take k (replicate j 0) ≡ replicate {A = ℕ} k 0
-take-zeros zero j h = refl
-take-zeros (suc k) zero h = absurd (omega arith)
-take-zeros (suc k) (suc j) h = ap (λ l. 0 ∷ l) (take-zeros k j (omega arith))
-
 padded-front : (k j : ℕ) (l : List ℕ) → length l ≤ k → k ≤ j → take k (padded j l) ≡ padded k l
 unfolding padded
 padded-front k j [] a b = simp sub-zero (take-zeros k j b)
