@@ -2,6 +2,7 @@
 use crate::refuse;
 use crate::skip;
 use casefile::Reading;
+use std::num::wrapping_add_u32;
 
 pub fn answer(line: &[u8], whole: bool) {
     let mut f = [0u8; 12800];
@@ -57,23 +58,23 @@ fn show(buffer: &[u8], whole: bool) {
         lines::print_list(buffer);
     } else {
         lines::print_number(buffer.len() as u64);
-        lines::print_number(weight(buffer));
+        lines::print_number(weight(buffer) as u64);
     }
 }
 
-// The sum of the bytes, each times its place counted from 1, modulo 2^32.
-fn weight(s: &[u8]) -> u64 {
+fn wide(x: u8) -> u32 {
+    x as u32
+}
+
+// The sum of the bytes, each times its place counted from 1, modulo 2^32. A byte lies in as many tails as its place counts.
+fn weight(s: &[u8]) -> u32 {
+    let mut tail = 0;
     let mut sum = 0;
-    let mut i = 0;
-    while i < s.len() {
-        sum = heavier(sum, i, s[i]);
-        i += 1;
+    let mut i = s.len();
+    while 0 < i {
+        i -= 1;
+        tail = wrapping_add_u32(tail, wide(s[i]));
+        sum = wrapping_add_u32(sum, tail);
     }
     sum
-}
-
-// Remainders are taken first, so that nothing grows past 64 bits.
-fn heavier(sum: u64, i: usize, x: u8) -> u64 {
-    let place = i as u64 % 4294967296 + 1;
-    (sum % 4294967296 + place * x as u64) % 4294967296
 }

@@ -1,14 +1,9 @@
 // Steps of the reader: all from offset 0 on (file), or one at an offset (offset | file).
+ghost use Prim.Native.Nat.{_≤_, _<_};
+ghost use lib.ListN.{length};
 use crate::refuse;
 use crate::skip;
 use casefile::Step;
-
-// What comes after a step: one at another offset, or none.
-enum Then {
-    Next(usize),
-    Over,
-    Again,
-}
 
 pub fn answer_all(line: &[u8]) {
     let mut f = [0u8; 12800];
@@ -32,76 +27,61 @@ pub fn answer_one(line: &[u8]) {
     }
 }
 
-// The steps from offset 0 on up to the end, or up to a refusal, which is asked for again. A record has at least two bytes, so there are no more
-// steps than this.
+// The steps from offset 0 on. The last one, which hands out no record, is made twice: it must say the same again.
 fn walk(s: &[u8]) {
     let mut at = 0;
-    let mut left = s.len() + 1;
-    while 0 < left {
-        let then = step(s, at);
-        match then {
-            Then::Next(next) => at = next,
-            Then::Over => return,
-            Then::Again => {
-                step(s, at);
-                return;
-            }
-        }
-        left -= 1;
+    let mut next = step(s, at);
+    while at < next {
+        at = next;
+        next = step(s, at);
     }
+    step(s, at);
 }
 
-// Makes the step at an offset and prints it.
-fn step(s: &[u8], at: usize) -> Then {
-    lines::print(b" |");
+// Makes the step at an offset and prints it. Answers the offset for the next one.
+fn step(s: &[u8], at: usize) -> usize
+    ensures { λ r. ⌜ (at ≤ r) × (at < r → r ≤ length (now (s .entry))) ⌝ }
+{
     let stepped = casefile::step_at(s, at);
-    let then = show(s, stepped.step, stepped.next);
-    lines::print(b" ->");
-    lines::print_number(stepped.next as u64);
-    then
-}
-
-fn show(s: &[u8], step: Step, next: usize) -> Then {
+    let step = stepped.step;
+    let next = stepped.next;
+    lines::print(b" |");
     match step {
-        Step::Field { p, n } => {
-            lines::print(b" field");
-            lines::print_number(p as u64);
-            lines::print_number(n as u64);
-            Then::Next(next)
-        }
-        Step::Allow { high, low } => {
-            lines::print(b" allow");
-            lines::print_byte(high);
-            lines::print_byte(low);
-            Then::Next(next)
-        }
+        Step::Field { p, n } => show_field(p, n),
+        Step::Allow { high, low } => show_allow(high, low),
         Step::Row { start, end } => {
             lines::print(b" row");
             show_entries(s, start, end);
-            Then::Next(next)
         }
         Step::Candidate { start, end } => {
             lines::print(b" candidate");
             show_entries(s, start, end);
-            Then::Next(next)
         }
-        Step::End => {
-            lines::print(b" end");
-            Then::Next(next)
-        }
-        Step::Over => {
-            lines::print(b" over");
-            Then::Over
-        }
-        Step::Refused(place) => {
-            refuse(place);
-            Then::Again
-        }
+        Step::End => lines::print(b" end"),
+        Step::Over => lines::print(b" over"),
+        Step::Refused(place) => refuse(place),
     }
+    lines::print(b" ->");
+    lines::print_number(next as u64);
+    next
+}
+
+fn show_field(p: u32, n: usize) {
+    lines::print(b" field");
+    lines::print_number(p as u64);
+    lines::print_number(n as u64);
+}
+
+fn show_allow(high: u8, low: u8) {
+    lines::print(b" allow");
+    lines::print_byte(high);
+    lines::print_byte(low);
 }
 
 // The file's bytes from start to end, end excluded, behind these offsets.
-fn show_entries(s: &[u8], start: usize, end: usize) {
+fn show_entries(s: &[u8], start: usize, end: usize)
+    requires { ⌜ (start ≤ end) × (end ≤ length (now s)) ⌝ }
+{
     lines::print_number(start as u64);
     lines::print_number(end as u64);
     lines::print(b" :");

@@ -7,7 +7,7 @@
 //!
 //!     read   file | matrix buffer | candidate buffer      a whole file: the answer, and each buffer whole
 //!     weigh  file | matrix buffer | candidate buffer      the same, and of each buffer the length and a sum of its bytes, each times its place
-//!     steps  file                                         every step from offset 0 on, up to the end or the second refusal
+//!     steps  file                                         every step from offset 0 on; the last, which hands out no record, twice
 //!     step   offset | file                                one step at an offset
 //!
 //! A step is printed as the record, its entries with the offsets from and to which they are the file's bytes, and behind `->` the offset for the next step.
@@ -108,14 +108,12 @@ impl Steps {
         format!("| {} -> {at}", refused(self.place))
     }
 
-    /// The records, then the step behind them: the end, or a refusal, which is given again.
+    /// The records, then twice the step behind them, which says the same again.
     fn all(&self) -> String {
-        let mut steps: Vec<String> = self.records.iter().map(|r| self.step(r.begin())).collect();
-        let last = self.step(self.records.last().map_or(0, Record::end));
-        if !self.whole {
-            steps.push(last.clone());
-        }
-        steps.push(last);
+        let mut offsets: Vec<usize> = self.records.iter().map(Record::begin).collect();
+        let last = self.records.last().map_or(0, Record::end);
+        offsets.extend([last, last]);
+        let steps: Vec<String> = offsets.iter().map(|&at| self.step(at)).collect();
         steps.join(" ")
     }
 }
