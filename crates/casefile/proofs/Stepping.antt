@@ -24,7 +24,7 @@ use Rattle.casefile.proofs.Records.Takes.{takes}
 use Rattle.casefile.proofs.Place.{over-case, case-over, good-begins, place-past, place-unique, place-end}
 use Rattle.casefile.proofs.Ahead.{Peeked, fits-peek, FitsAs, alive-fits}
 
-record-long : (x : Record) → 2 ≤ length (recordBytes x)
+pub record-long : (x : Record) → 2 ≤ length (recordBytes x)
 unfolding recordBytes
 record-long (field p n) = omega arith
 record-long (allow high low) = omega arith
@@ -52,13 +52,17 @@ case-fits c w xs ys x e =
     let f = head-fits (t .2) in
     (t .0, t .1, f .0, f .1)
 
+pub next-within : {s : List ℕ} {at : ℕ} {x : Record} → NextRecord s at x → at + length (recordBytes x) ≤ length s
+next-within {s} {at} {x} N =
+    let w : ℕ = length (recordBytes x) in
+    let size : length (take (at + w) s) ≡ at + w = ap length (N .holds) ∙ length-append (flat (N .passed)) (recordBytes x) ∙ ap (λ j. j + w) (sym (N .begins)) in
+    omega (arith, length-take (at + w) s)
+
 next-standing : {s : List ℕ} {at : ℕ} {x : Record} → NextRecord s at x → Standing s at x
 next-standing {s} {at} {x} N =
     let w : ℕ = length (recordBytes x) in
     let f = case-fits (N .case) (N .well-formed) (N .passed) (N .to-come) x (N .listed) in
     let good = takes-good (f .1) tt in
-    let size : length (take (at + w) s) ≡ at + w = ap length (N .holds) ∙ length-append (flat (N .passed)) (recordBytes x) ∙ ap (λ j. j + w) (sym (N .begins)) in
-    let within : at + w ≤ length s = omega (arith, length-take (at + w) s) in
     let front : take at s ≡ flat (N .passed) =
     sym (take-take at (at + w) s (omega arith)) ∙ ap (take at) (N .holds) ∙ take-at (flat (N .passed)) (recordBytes x) at (sym (N .begins)) in
     let bytes : take w (drop at s) ≡ recordBytes x =
@@ -70,7 +74,7 @@ next-standing {s} {at} {x} N =
       behind = f .2;
       comes = ap (run Start) front ∙ takes-end (f .1) tt;
       fits = f .3;
-      within = within;
+      within = next-within N;
       there = sym (take-append-drop w (drop at s)) ∙ ap (λ u. u ++ drop w (drop at s)) bytes;
       begins = good-begins _ (subst Good (sym comes) (fits-good (f .3) good));
     }
