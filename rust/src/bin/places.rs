@@ -11,7 +11,7 @@
 //!     step   offset | file                                one step at an offset
 //!
 //! A step is printed as the record, its entries with the offsets from and to which they are the file's bytes, and behind `->` the offset for the next step.
-use kinarsop::case::{self, Record};
+use kinarsop::grammar::{self, Record};
 use kinarsop::lines::{self, list, Line};
 
 /// A list of bytes.
@@ -35,8 +35,8 @@ fn written(buffer: &[u64], front: &[u64]) -> Option<Vec<u64>> {
 fn read(line: &Line) -> (String, [Vec<u64>; 2]) {
     let (file, m, cs) = (bytes(line, 0), bytes(line, 1), bytes(line, 2));
     let unchanged = [m.to_vec(), cs.to_vec()];
-    let Some(c) = case::values(file) else {
-        return (refused(case::place(file)), unchanged);
+    let Some(c) = grammar::values(file) else {
+        return (refused(grammar::place(file)), unchanged);
     };
     let count = c.candidates.len() / c.n as usize;
     match (written(m, &c.matrix), written(cs, &c.candidates)) {
@@ -87,9 +87,9 @@ impl Steps {
     fn of(file: &[u64]) -> Self {
         Steps {
             length: file.len(),
-            place: case::place(file),
-            records: case::records(file),
-            whole: case::values(file).is_some(),
+            place: grammar::place(file),
+            records: grammar::records(file),
+            whole: grammar::values(file).is_some(),
         }
     }
 
