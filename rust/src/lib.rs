@@ -1,5 +1,9 @@
 //! What stands beside the proved library: an implementation of the same mathematics that shares nothing with it, for comparison.
 #![forbid(unsafe_code)]
 
+pub mod case;
 pub mod lines;
 pub mod naive;
+pub mod numbers;
+pub mod program;
+pub mod sheet;
