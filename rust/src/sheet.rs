@@ -60,4 +60,20 @@ mod tests {
         assert_eq!(printed(&file), lines.join("\n"));
         assert_eq!(printed(&[]), "REFUSED 0\n");
     }
+
+    #[test]
+    fn sample_cases() {
+        let folder = concat!(env!("CARGO_MANIFEST_DIR"), "/../cases");
+        let mut count = 0;
+        for entry in std::fs::read_dir(folder).expect("the samples are there") {
+            let path = entry.expect("a sample").path();
+            if path.extension().is_some_and(|e| e == "case") {
+                let file = std::fs::read(&path).expect("a case");
+                let stored = std::fs::read_to_string(path.with_extension("sheet"));
+                assert_eq!(printed(&file), stored.expect("its sheet"), "{path:?}");
+                count += 1;
+            }
+        }
+        assert_eq!(count, 5);
+    }
 }

@@ -7,7 +7,7 @@
 //! are shown, and the status is 1. Else the counts are printed, of cases by what the sheet says and by the kind of machine.
 use kinarsop::case::{Case, MOST_CANDIDATES};
 use kinarsop::lines::list;
-use kinarsop::naive::{is_prime, times_matrix, unit_row, Matrix, Row};
+use kinarsop::naive::{companion, identity, is_prime, times_matrix, unit_row, Matrix, Row};
 use kinarsop::numbers::Numbers;
 use kinarsop::program::Program;
 use kinarsop::sheet::printed;
@@ -15,10 +15,6 @@ use std::collections::BTreeMap;
 
 fn zeros(n: usize) -> Matrix {
     vec![vec![0; n]; n]
-}
-
-fn identity(n: usize) -> Matrix {
-    (0..n).map(|i| unit_row(n, i)).collect()
 }
 
 fn dense(numbers: &mut Numbers, p: u64, n: usize) -> Matrix {
@@ -77,21 +73,13 @@ fn unipotent(numbers: &mut Numbers, p: u64, n: usize) -> Matrix {
     m
 }
 
-/// Each unit row goes to the next, the last to a given row.
-fn companion_of(last: Row) -> Matrix {
-    let n = last.len();
-    let mut m: Matrix = (1..n).map(|i| unit_row(n, i)).collect();
-    m.push(last);
-    m
+fn for_rows(numbers: &mut Numbers, p: u64, n: usize) -> Matrix {
+    companion(&numbers.row(p, n))
 }
 
-fn companion(numbers: &mut Numbers, p: u64, n: usize) -> Matrix {
-    companion_of(numbers.row(p, n))
-}
-
-/// The other side: what is a companion for columns.
-fn transposed_companion(numbers: &mut Numbers, p: u64, n: usize) -> Matrix {
-    let m = companion(numbers, p, n);
+/// A companion turned over: what it would be if columns were the states.
+fn for_columns(numbers: &mut Numbers, p: u64, n: usize) -> Matrix {
+    let m = for_rows(numbers, p, n);
     (0..n)
         .map(|i| m.iter().map(|row| row[i]).collect())
         .collect()
@@ -105,7 +93,7 @@ fn blocks(numbers: &mut Numbers, p: u64, n: usize) -> Matrix {
         choices.push(match numbers.below(6) {
             0 => zeros(size),
             1 => identity(size),
-            _ => companion(numbers, p, size),
+            _ => for_rows(numbers, p, size),
         });
     }
     let mut m = zeros(n);
@@ -149,8 +137,8 @@ const KINDS: [(&str, Kind); 14] = [
     ("diagonal", diagonal),
     ("nilpotent", nilpotent),
     ("unipotent", unipotent),
-    ("companion", companion),
-    ("companion of columns", transposed_companion),
+    ("companion", for_rows),
+    ("companion for columns", for_columns),
     ("repeated blocks", blocks),
     ("permutation", permutation),
     ("singular", singular),
@@ -165,8 +153,9 @@ fn conjugate(numbers: &mut Numbers, p: u64, m: &mut Matrix) {
         if i == j {
             continue;
         }
-        for c in 0..n {
-            m[i][c] = (m[i][c] + k * m[j][c]) % p;
+        let added = m[j].clone();
+        for (x, y) in m[i].iter_mut().zip(added) {
+            *x = (*x + k * y) % p;
         }
         for row in m.iter_mut() {
             row[j] = (row[j] + (p - k) * row[i]) % p;
