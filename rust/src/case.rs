@@ -20,12 +20,13 @@ impl Case {
         self.stated.unwrap_or(DEFAULT_ALLOWANCE)
     }
 
-    /// The case file.
-    pub fn bytes(&self) -> Vec<u8> {
-        let mut file = vec![];
+    /// The records of the case file, in order.
+    pub fn records(&self) -> Vec<Vec<u8>> {
+        let mut records = vec![];
         let mut record = |letter: u8, numbers: &[u64]| {
-            file.extend([255, letter]);
-            file.extend(numbers.iter().map(|&x| x as u8));
+            let mut bytes = vec![255, letter];
+            bytes.extend(numbers.iter().map(|&x| x as u8));
+            records.push(bytes);
         };
         record(b'F', &[self.p, self.matrix.len() as u64]);
         if let Some(allowance) = self.stated {
@@ -38,7 +39,12 @@ impl Case {
             record(b'C', row);
         }
         record(b'E', &[]);
-        file
+        records
+    }
+
+    /// The case file.
+    pub fn bytes(&self) -> Vec<u8> {
+        self.records().concat()
     }
 
     fn in_range(&self) -> bool {

@@ -227,44 +227,90 @@ fn made(numbers: &mut Numbers, primes: &[u64]) -> (Case, &'static str) {
 /// Bytes that mean something somewhere in a case.
 const TELLING: [u8; 12] = [0, 1, 2, 4, 65, 67, 69, 70, 82, 127, 128, 255];
 
-/// One or two faults: bytes cut off, changed, appended, put in, taken out, a stretch written twice, or 1 to 140 candidates of zeros in front of the end.
-fn damage(numbers: &mut Numbers, n: usize, file: &mut Vec<u8>) {
-    for _ in 0..1 + numbers.below(2) {
-        let byte = match numbers.below(2) {
-            0 => numbers.one_of(&TELLING),
-            _ => numbers.below(256) as u8,
-        };
-        if file.is_empty() {
-            file.push(byte);
-            continue;
+/// A fault in the sequence of records: one written twice, left out or changed for another, or a record that is put in: an allowance, a row or a candidate
+/// of zeros, an end, or so many candidates that there may be too many.
+fn shuffle(numbers: &mut Numbers, case: &Case) -> Vec<u8> {
+    let mut records = case.records();
+    let at = numbers.place(records.len());
+    let zeros = vec![0; case.matrix.len()];
+    let (row, candidate) = (
+        [&[255, b'R'], &zeros[..]].concat(),
+        [&[255, b'C'], &zeros[..]].concat(),
+    );
+    match numbers.below(8) {
+        0 => records.insert(at, records[at].clone()),
+        1 => {
+            records.remove(at);
         }
-        // Half of the places are in the first records, which say what the rest must be.
-        let reach = match numbers.below(2) {
-            0 => file.len(),
-            _ => file.len().min(20),
-        };
-        let at = numbers.place(reach);
-        match numbers.below(9) {
-            0 => file.truncate(at),
-            1 => file.push(byte),
-            2 => file.insert(at, byte),
-            3 => {
-                file.remove(at);
-            }
-            4 => {
-                let to = (at + 1 + numbers.place(12)).min(file.len());
-                let stretch = file[at..to].to_vec();
-                file.splice(at..at, stretch);
-            }
-            5 => file[at] = file[at].wrapping_add(1),
-            6 => {
-                let row = [vec![255, b'C'], vec![0; n]].concat();
-                let end = file.len().saturating_sub(2);
-                file.splice(end..end, row.repeat(1 + numbers.place(140)));
-            }
-            _ => file[at] = byte,
+        2 => {
+            let other = numbers.place(records.len());
+            records.swap(at, other);
+        }
+        3 => records.insert(at, vec![255, b'A', 0, 9]),
+        4 => records.insert(at, row),
+        5 => records.insert(at, candidate),
+        6 => records.insert(at, vec![255, b'E']),
+        _ => {
+            let end = records.len() - 1;
+            let count = 1 + numbers.place(140);
+            records.splice(end..end, vec![candidate; count]);
         }
     }
+    records.concat()
+}
+
+/// A fault in the bytes: some cut off, changed, appended, put in, taken out or written twice.
+fn smudge(numbers: &mut Numbers, file: &mut Vec<u8>) {
+    let byte = match numbers.below(2) {
+        0 => numbers.one_of(&TELLING),
+        _ => numbers.below(256) as u8,
+    };
+    if file.is_empty() {
+        file.push(byte);
+        return;
+    }
+    // Half of the places are in the first records, which say what the rest must be.
+    let reach = match numbers.below(2) {
+        0 => file.len(),
+        _ => file.len().min(20),
+    };
+    let at = numbers.place(reach);
+    match numbers.below(8) {
+        0 => file.truncate(at),
+        1 => file.push(byte),
+        2 => file.insert(at, byte),
+        3 => {
+            file.remove(at);
+        }
+        4 => {
+            let to = (at + 1 + numbers.place(12)).min(file.len());
+            let stretch = file[at..to].to_vec();
+            file.splice(at..at, stretch);
+        }
+        5 => file[at] = file[at].wrapping_add(1),
+        _ => file[at] = byte,
+    }
+}
+
+/// The file with a fault in its records, in its bytes or both.
+fn damaged_file(numbers: &mut Numbers, case: &Case) -> Vec<u8> {
+    let faults = numbers.one_of(&[
+        (true, 0),
+        (true, 0),
+        (true, 1),
+        (false, 1),
+        (false, 1),
+        (false, 2),
+    ]);
+    let mut file = if faults.0 {
+        shuffle(numbers, case)
+    } else {
+        case.bytes()
+    };
+    for _ in 0..faults.1 {
+        smudge(numbers, &mut file);
+    }
+    file
 }
 
 /// What a printed sheet is counted under.
@@ -301,11 +347,12 @@ fn main() {
     let mut sorts: BTreeMap<String, u64> = BTreeMap::new();
     for number in 0..cases {
         let (case, machine) = made(&mut numbers, &primes);
-        let mut file = case.bytes();
         let damaged = numbers.below(5) < 2;
-        if damaged {
-            damage(&mut numbers, case.matrix.len(), &mut file);
-        }
+        let file = if damaged {
+            damaged_file(&mut numbers, &case)
+        } else {
+            case.bytes()
+        };
         let expected = printed(&file);
         let found = program.run(&file);
         if found != expected.as_bytes() {
