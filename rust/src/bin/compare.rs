@@ -227,17 +227,26 @@ fn made(numbers: &mut Numbers, primes: &[u64]) -> (Case, &'static str) {
 /// Bytes that mean something somewhere in a case.
 const TELLING: [u8; 12] = [0, 1, 2, 4, 65, 67, 69, 70, 82, 127, 128, 255];
 
-/// A fault in the sequence of records: one written twice, left out or changed for another, or a record that is put in: an allowance, a row or a candidate
-/// of zeros, an end, or so many candidates that there may be too many.
+/// A place; every other time one of the first few, which say what the rest of a file must be.
+fn among(numbers: &mut Numbers, length: usize, few: usize) -> usize {
+    if numbers.once_in(2) {
+        numbers.place(length)
+    } else {
+        numbers.place(length.min(few))
+    }
+}
+
+/// A fault in the sequence of records: one written twice, left out or swapped with another, or one put in: an allowance, a row or a candidate of
+/// zeros, an end; or so many candidates that there are 128, 129 or 130; or a number at the end of its range or just behind it.
 fn shuffle(numbers: &mut Numbers, case: &Case) -> Vec<u8> {
     let mut records = case.records();
-    let at = numbers.place(records.len());
+    let at = among(numbers, records.len(), 3);
     let zeros = vec![0; case.matrix.len()];
     let (row, candidate) = (
         [&[255, b'R'], &zeros[..]].concat(),
         [&[255, b'C'], &zeros[..]].concat(),
     );
-    match numbers.below(8) {
+    match numbers.below(10) {
         0 => records.insert(at, records[at].clone()),
         1 => {
             records.remove(at);
@@ -250,10 +259,20 @@ fn shuffle(numbers: &mut Numbers, case: &Case) -> Vec<u8> {
         4 => records.insert(at, row),
         5 => records.insert(at, candidate),
         6 => records.insert(at, vec![255, b'E']),
-        _ => {
+        7 => {
             let end = records.len() - 1;
-            let count = 1 + numbers.place(140);
+            let count = MOST_CANDIDATES - case.candidates.len() + numbers.place(3);
             records.splice(end..end, vec![candidate; count]);
+        }
+        _ if records[at].len() == 2 => {}
+        _ => {
+            let place = 2 + numbers.place(records[at].len() - 2);
+            records[at][place] = match (records[at][1], place) {
+                (b'F', 2) => numbers.one_of(&[0, 1, 4, 251, 253, 255]),
+                (b'F', _) => numbers.one_of(&[0, 65]),
+                (b'A', _) => numbers.one_of(&[127, 128]),
+                _ => case.p as u8 - 1 + numbers.place(2) as u8,
+            };
         }
     }
     records.concat()
@@ -269,12 +288,7 @@ fn smudge(numbers: &mut Numbers, file: &mut Vec<u8>) {
         file.push(byte);
         return;
     }
-    // Half of the places are in the first records, which say what the rest must be.
-    let reach = match numbers.below(2) {
-        0 => file.len(),
-        _ => file.len().min(20),
-    };
-    let at = numbers.place(reach);
+    let at = among(numbers, file.len(), 20);
     match numbers.below(8) {
         0 => file.truncate(at),
         1 => file.push(byte),
