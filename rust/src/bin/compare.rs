@@ -1,0 +1,401 @@
+//! Runs the program `stand` on many made cases and holds what it prints to the independent implementation, byte for byte:
+//!
+//!     compare CASES SEED PROGRAM..
+//!
+//! PROGRAM is the command that runs `stand`, an emulator's words first where it needs one. Machines of every kind below are made, with candidates and
+//! allowances of every kind; two files in five are damaged afterwards. At the first difference the file, what was expected and what was printed
+//! are shown, and the status is 1. Else the counts are printed, of cases by what the sheet says and by the kind of machine.
+use kinarsop::case::{Case, MOST_CANDIDATES};
+use kinarsop::lines::list;
+use kinarsop::naive::{companion, identity, is_prime, times_matrix, unit_row, Matrix, Row};
+use kinarsop::numbers::Numbers;
+use kinarsop::program::Program;
+use kinarsop::sheet::printed;
+use std::collections::BTreeMap;
+
+fn zeros(n: usize) -> Matrix {
+    vec![vec![0; n]; n]
+}
+
+fn dense(numbers: &mut Numbers, p: u64, n: usize) -> Matrix {
+    numbers.matrix(p, n)
+}
+
+fn sparse(numbers: &mut Numbers, p: u64, n: usize) -> Matrix {
+    let mut m = zeros(n);
+    for _ in 0..2 * n {
+        m[numbers.place(n)][numbers.place(n)] = numbers.below(p);
+    }
+    m
+}
+
+fn zero(_: &mut Numbers, _: u64, n: usize) -> Matrix {
+    zeros(n)
+}
+
+fn one(_: &mut Numbers, _: u64, n: usize) -> Matrix {
+    identity(n)
+}
+
+fn scalar(numbers: &mut Numbers, p: u64, n: usize) -> Matrix {
+    let k = numbers.below(p);
+    (0..n)
+        .map(|i| unit_row(n, i).iter().map(|x| k * x).collect())
+        .collect()
+}
+
+fn diagonal(numbers: &mut Numbers, p: u64, n: usize) -> Matrix {
+    let few = 1 + numbers.below(p.min(4));
+    let mut m = zeros(n);
+    for (i, row) in m.iter_mut().enumerate() {
+        row[i] = numbers.below(few);
+    }
+    m
+}
+
+/// Nonzero above the diagonal alone.
+fn nilpotent(numbers: &mut Numbers, p: u64, n: usize) -> Matrix {
+    let mut m = zeros(n);
+    for (i, row) in m.iter_mut().enumerate() {
+        for x in &mut row[i + 1..] {
+            *x = numbers.below(p);
+        }
+    }
+    m
+}
+
+/// Ones on the diagonal, numbers above it: a power of p is the period.
+fn unipotent(numbers: &mut Numbers, p: u64, n: usize) -> Matrix {
+    let mut m = nilpotent(numbers, p, n);
+    for (i, row) in m.iter_mut().enumerate() {
+        row[i] = 1;
+    }
+    m
+}
+
+fn for_rows(numbers: &mut Numbers, p: u64, n: usize) -> Matrix {
+    companion(&numbers.row(p, n))
+}
+
+/// A companion turned over: what it would be if columns were the states.
+fn for_columns(numbers: &mut Numbers, p: u64, n: usize) -> Matrix {
+    let m = for_rows(numbers, p, n);
+    (0..n)
+        .map(|i| m.iter().map(|row| row[i]).collect())
+        .collect()
+}
+
+/// Two small companions, or the zero or identity matrix among them, each put on the diagonal again and again.
+fn blocks(numbers: &mut Numbers, p: u64, n: usize) -> Matrix {
+    let mut choices = vec![];
+    for _ in 0..2 {
+        let size = 1 + numbers.place(n.min(4));
+        choices.push(match numbers.below(6) {
+            0 => zeros(size),
+            1 => identity(size),
+            _ => for_rows(numbers, p, size),
+        });
+    }
+    let mut m = zeros(n);
+    let mut at = 0;
+    while at < n {
+        let block = &choices[numbers.place(2)];
+        let size = block.len().min(n - at);
+        for (i, row) in block[..size].iter().enumerate() {
+            m[at + i][at..at + size].copy_from_slice(&row[..size]);
+        }
+        at += size;
+    }
+    m
+}
+
+fn permutation(numbers: &mut Numbers, _: u64, n: usize) -> Matrix {
+    let mut m = identity(n);
+    for i in 1..n {
+        m.swap(i, numbers.place(i + 1));
+    }
+    m
+}
+
+/// A dense matrix whose last row depends on the others.
+fn singular(numbers: &mut Numbers, p: u64, n: usize) -> Matrix {
+    let mut m = numbers.matrix(p, n);
+    m[n - 1] = vec![0; n];
+    let coefficients = numbers.row(p, n);
+    m[n - 1] = times_matrix(p, &coefficients, &m);
+    m
+}
+
+type Kind = fn(&mut Numbers, u64, usize) -> Matrix;
+
+const KINDS: [(&str, Kind); 14] = [
+    ("dense", dense),
+    ("sparse", sparse),
+    ("zero", zero),
+    ("identity", one),
+    ("scalar", scalar),
+    ("diagonal", diagonal),
+    ("nilpotent", nilpotent),
+    ("unipotent", unipotent),
+    ("companion", for_rows),
+    ("companion for columns", for_columns),
+    ("repeated blocks", blocks),
+    ("permutation", permutation),
+    ("singular", singular),
+    ("dense", dense),
+];
+
+/// The same machine seen in another basis: k times row j is added to row i, and k times column i taken from column j, some times over.
+fn conjugate(numbers: &mut Numbers, p: u64, m: &mut Matrix) {
+    let n = m.len();
+    for _ in 0..2 * n {
+        let (i, j, k) = (numbers.place(n), numbers.place(n), numbers.below(p));
+        if i == j {
+            continue;
+        }
+        let added = m[j].clone();
+        for (x, y) in m[i].iter_mut().zip(added) {
+            *x = (*x + k * y) % p;
+        }
+        for row in m.iter_mut() {
+            row[j] = (row[j] + (p - k) * row[i]) % p;
+        }
+    }
+}
+
+fn candidates(numbers: &mut Numbers, p: u64, m: &Matrix) -> Vec<Row> {
+    let n = m.len();
+    let most = if n <= 6 && numbers.once_in(20) {
+        MOST_CANDIDATES
+    } else {
+        6
+    };
+    let count = numbers.place(most + 1);
+    let kind = numbers.below(8);
+    let mut rows: Vec<Row> = vec![];
+    for k in 0..count {
+        let choice = if kind < 5 { kind } else { numbers.below(5) };
+        let row = match choice {
+            0 => vec![0; n],
+            1 => unit_row(n, numbers.place(n)),
+            2 if 0 < k => rows[numbers.place(k)].clone(),
+            3 if 0 < k => times_matrix(p, &rows[k - 1], m),
+            _ => numbers.row(p, n),
+        };
+        rows.push(row);
+    }
+    rows
+}
+
+fn stated(numbers: &mut Numbers, n: usize) -> Option<u64> {
+    match numbers.below(8) {
+        0 => Some(0),
+        1..=3 => Some(numbers.below(3 * n as u64 + 1)),
+        4 => Some(16_383),
+        5 => Some(numbers.below(16_384)),
+        _ => None,
+    }
+}
+
+/// A case, and the name of its machine's kind.
+fn made(numbers: &mut Numbers, primes: &[u64]) -> (Case, &'static str) {
+    let p = match numbers.below(4) {
+        0 => 2,
+        1 => numbers.one_of(&[3, 5, 7]),
+        _ => numbers.one_of(primes),
+    };
+    let n = match numbers.below(200) {
+        0 => 64,
+        1 => 31 + numbers.place(33),
+        2..=6 => 13 + numbers.place(18),
+        _ => 1 + numbers.place(12),
+    };
+    let (name, kind) = numbers.one_of(&KINDS);
+    let mut matrix = kind(numbers, p, n);
+    if numbers.once_in(2) {
+        conjugate(numbers, p, &mut matrix);
+    }
+    let case = Case {
+        p,
+        candidates: candidates(numbers, p, &matrix),
+        stated: stated(numbers, n),
+        matrix,
+    };
+    (case, name)
+}
+
+/// Bytes that mean something somewhere in a case.
+const TELLING: [u8; 12] = [0, 1, 2, 4, 65, 67, 69, 70, 82, 127, 128, 255];
+
+/// A place; every other time one of the first few, which say what the rest of a file must be.
+fn among(numbers: &mut Numbers, length: usize, few: usize) -> usize {
+    if numbers.once_in(2) {
+        numbers.place(length)
+    } else {
+        numbers.place(length.min(few))
+    }
+}
+
+/// A fault in the sequence of records: one written twice, left out or swapped with another, or one put in: an allowance, a row or a candidate of
+/// zeros, an end; or so many candidates that there are 128, 129 or 130; or a number at the end of its range or just behind it.
+fn shuffle(numbers: &mut Numbers, case: &Case) -> Vec<u8> {
+    let mut records = case.records();
+    let at = among(numbers, records.len(), 3);
+    let zeros = vec![0; case.matrix.len()];
+    let (row, candidate) = (
+        [&[255, b'R'], &zeros[..]].concat(),
+        [&[255, b'C'], &zeros[..]].concat(),
+    );
+    match numbers.below(10) {
+        0 => records.insert(at, records[at].clone()),
+        1 => {
+            records.remove(at);
+        }
+        2 => {
+            let other = numbers.place(records.len());
+            records.swap(at, other);
+        }
+        3 => records.insert(at, vec![255, b'A', 0, 9]),
+        4 => records.insert(at, row),
+        5 => records.insert(at, candidate),
+        6 => records.insert(at, vec![255, b'E']),
+        7 => {
+            let end = records.len() - 1;
+            let count = MOST_CANDIDATES - case.candidates.len() + numbers.place(3);
+            records.splice(end..end, vec![candidate; count]);
+        }
+        _ if records[at].len() == 2 => {}
+        _ => {
+            let place = 2 + numbers.place(records[at].len() - 2);
+            records[at][place] = match (records[at][1], place) {
+                (b'F', 2) => numbers.one_of(&[0, 1, 4, 251, 253, 255]),
+                (b'F', _) => numbers.one_of(&[0, 65]),
+                (b'A', _) => numbers.one_of(&[127, 128]),
+                _ => case.p as u8 - 1 + numbers.place(2) as u8,
+            };
+        }
+    }
+    records.concat()
+}
+
+/// A fault in the bytes: some cut off, changed, appended, put in, taken out or written twice.
+fn smudge(numbers: &mut Numbers, file: &mut Vec<u8>) {
+    let byte = match numbers.below(2) {
+        0 => numbers.one_of(&TELLING),
+        _ => numbers.below(256) as u8,
+    };
+    if file.is_empty() {
+        file.push(byte);
+        return;
+    }
+    let at = among(numbers, file.len(), 20);
+    match numbers.below(8) {
+        0 => file.truncate(at),
+        1 => file.push(byte),
+        2 => file.insert(at, byte),
+        3 => {
+            file.remove(at);
+        }
+        4 => {
+            let to = (at + 1 + numbers.place(12)).min(file.len());
+            let stretch = file[at..to].to_vec();
+            file.splice(at..at, stretch);
+        }
+        5 => file[at] = file[at].wrapping_add(1),
+        _ => file[at] = byte,
+    }
+}
+
+/// The file with a fault in its records, in its bytes or both.
+fn damaged_file(numbers: &mut Numbers, case: &Case) -> Vec<u8> {
+    let faults = numbers.one_of(&[
+        (true, 0),
+        (true, 0),
+        (true, 1),
+        (false, 1),
+        (false, 1),
+        (false, 2),
+    ]);
+    let mut file = if faults.0 {
+        shuffle(numbers, case)
+    } else {
+        case.bytes()
+    };
+    for _ in 0..faults.1 {
+        smudge(numbers, &mut file);
+    }
+    file
+}
+
+/// What a printed sheet is counted under.
+fn sort(sheet: &str) -> &'static str {
+    let never = sheet.ends_with("PERIOD none\n");
+    if sheet.starts_with("REFUSED") {
+        "refused"
+    } else if sheet.contains("STAND proved") {
+        if never {
+            "proved, period none"
+        } else {
+            "proved, period a number"
+        }
+    } else if never {
+        "short, period none"
+    } else {
+        "short, period a number"
+    }
+}
+
+fn main() {
+    let words: Vec<String> = std::env::args().skip(1).collect();
+    let (Some(Ok(cases)), Some(Ok(seed)), Some(_)) = (
+        words.first().map(|w| w.parse::<u64>()),
+        words.get(1).map(|w| w.parse::<u64>()),
+        words.get(2),
+    ) else {
+        eprintln!("usage: compare CASES SEED PROGRAM..");
+        std::process::exit(2);
+    };
+    let program = Program(words[2..].to_vec());
+    let primes: Vec<u64> = (2..=251).filter(|&p| is_prime(p)).collect();
+    let mut numbers = Numbers(seed);
+    let mut sorts: BTreeMap<String, u64> = BTreeMap::new();
+    for number in 0..cases {
+        let (case, machine) = made(&mut numbers, &primes);
+        let damaged = numbers.below(5) < 2;
+        let file = if damaged {
+            damaged_file(&mut numbers, &case)
+        } else {
+            case.bytes()
+        };
+        let expected = printed(&file);
+        let found = program.run(&file);
+        if found != expected.as_bytes() {
+            let bytes: Vec<u64> = file.iter().map(|&x| x.into()).collect();
+            println!("case {number} of seed {seed} differs: {}", list(&bytes));
+            println!("expected:\n{expected}");
+            println!("printed:\n{}", String::from_utf8_lossy(&found));
+            std::process::exit(1);
+        }
+        let mut count = |name: String| *sorts.entry(name).or_default() += 1;
+        count(format!("sheet: {}", sort(&expected)));
+        match damaged {
+            true if expected.starts_with("REFUSED") => count("file: damaged, refused".to_string()),
+            true => count("file: damaged, still a case".to_string()),
+            false => count("file: sound".to_string()),
+        }
+        if !expected.starts_with("REFUSED") {
+            count(format!("machine: {machine}"));
+            let size = match case.matrix.len() {
+                1..=12 => "1 to 12",
+                13..=30 => "13 to 30",
+                31..=63 => "31 to 63",
+                _ => "64",
+            };
+            count(format!("n: {size}"));
+        }
+    }
+    println!("{cases} cases of seed {seed}, no difference");
+    for (name, count) in sorts {
+        println!("{count:6}  {name}");
+    }
+}
