@@ -172,6 +172,7 @@ pub fn values(s: &[u64]) -> Option<Case> {
 #[cfg(test)]
 mod tests {
     use super::*;
+    use crate::numbers::Numbers;
 
     const SAMPLE: [u64; 18] = [
         255, 70, 3, 2, 255, 82, 0, 1, 255, 82, 2, 0, 255, 67, 1, 0, 255, 69,
@@ -185,6 +186,32 @@ mod tests {
         }
         s.extend([255, 69]);
         s
+    }
+
+    /// The module `case` finds the place in another way.
+    #[test]
+    fn two_ways_to_find_the_place_agree() {
+        let allowed = [&SAMPLE[..4], &[255, 65, 1, 2], &SAMPLE[4..]].concat();
+        let bytes = [0, 1, 2, 3, 65, 67, 69, 70, 82, 127, 128, 254, 255];
+        let mut numbers = Numbers(7);
+        for _ in 0..5_000 {
+            let mut s = numbers.one_of(&[SAMPLE.as_slice(), &allowed]).to_vec();
+            for _ in 0..=numbers.below(3) {
+                let at = numbers.place(s.len());
+                match numbers.below(3) {
+                    0 => s[at] = numbers.one_of(&bytes),
+                    1 => s.insert(at, numbers.one_of(&bytes)),
+                    _ => drop(s.remove(at)),
+                }
+            }
+            let narrow: Vec<u8> = s.iter().map(|&x| x as u8).collect();
+            assert_eq!(crate::case::place(&narrow), place(&s), "{s:?}");
+            assert_eq!(
+                crate::case::Case::read(&narrow).is_ok(),
+                values(&s).is_some(),
+                "{s:?}"
+            );
+        }
     }
 
     #[test]
