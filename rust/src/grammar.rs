@@ -194,7 +194,7 @@ mod tests {
         let allowed = [&SAMPLE[..4], &[255, 65, 1, 2], &SAMPLE[4..]].concat();
         let bytes = [0, 1, 2, 3, 65, 67, 69, 70, 82, 127, 128, 254, 255];
         let mut numbers = Numbers(7);
-        for _ in 0..5_000 {
+        for _ in 0..40 {
             let mut s = numbers.one_of(&[SAMPLE.as_slice(), &allowed]).to_vec();
             for _ in 0..=numbers.below(3) {
                 let at = numbers.place(s.len());
