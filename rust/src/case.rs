@@ -60,7 +60,7 @@ impl Case {
     /// The case of a shape, with or without an `A` record and with so many candidates, that has the numbers of the front where its file would
     /// have them. Behind the front's end p is 2, n is 1 and all else is 0, which is in range wherever anything is.
     fn shaped(front: &[u8], stated: bool, count: usize) -> Option<Case> {
-        let number = |place: usize, else_: u64| front.get(place).map_or(else_, |&x| x.into());
+        let number = |place: usize, beyond: u64| front.get(place).map_or(beyond, |&x| x.into());
         let (p, n) = (number(2, 2), number(3, 1) as usize);
         let first = if stated { 8 } else { 4 };
         let entries = |k: usize| first + k * (n + 2) + 2;

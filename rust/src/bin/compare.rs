@@ -246,7 +246,7 @@ fn shuffle(numbers: &mut Numbers, case: &Case) -> Vec<u8> {
         [&[255, b'R'], &zeros[..]].concat(),
         [&[255, b'C'], &zeros[..]].concat(),
     );
-    match numbers.below(10) {
+    match numbers.below(12) {
         0 => records.insert(at, records[at].clone()),
         1 => {
             records.remove(at);
