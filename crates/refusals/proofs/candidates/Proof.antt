@@ -1,5 +1,6 @@
 -- `refusals::candidates` meets its contract. Assumes nothing.
-use Prim.Native.Nat.{_/_, _≤_}
+use mathlib.Core.Path.{_≡_}
+use Prim.Native.Nat.{_/_, _%_, _≤_}
 use native.Mathlib.Omega.{arith}
 use lib.ListN.{length}
 use borrow.Author.Needs.{needs}
@@ -25,8 +26,9 @@ returns-2 c = due-here (applies _ (λ q. omega (arith, noRows-false _ _ (omega a
 returns-3 : tie.Need-returns-3
 returns-3 c =
     let x = c .before .before .args in
+    let over : length (x .cs .now) % x .n ≡ 0 = omega arith in
     let few : length (x .cs .now) / x .n ≤ 128 = omega arith in
-    due-passed 4 (rows-noRows (x .n) (x .cs .now) (omega arith) _ (rows-whole (x .n) (x .cs .now) (c .before .if1 .left)) few)
+    due-passed 4 (rows-noRows (x .n) (x .cs .now) (omega arith) _ (rows-whole (x .n) (x .cs .now) over) few)
 
 pub candidates-spec : {M : Type 1} → statement M
 candidates-spec = tie.close (tie.spec rem-if1 returns div-if2 returns-2 returns-3)
