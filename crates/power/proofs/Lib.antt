@@ -1,2 +1,3 @@
 pub mod Cycles
 pub mod Squares
+pub mod Leaps
