@@ -5,6 +5,7 @@
 --   NextRecord s at x   a well-formed case has the record x behind the records that fill s up to `at`, and s holds x there whole
 --   Ended s at        s is a well-formed case and `at` is its length
 --   StepIs s at r     the answer r, with the offset for the next step, at any offset: the record; the end; or number 8
+--   Moved q r x       the reader q says x, and is r behind it: the same bytes, at the offset for the next step
 -- Assumes nothing.
 use mathlib.Core.Path.{_≡_}
 use mathlib.Core.List.{List, _∷_, _++_}
@@ -12,11 +13,13 @@ use mathlib.Core.Option.{Option, none, some}
 use Prim.Native.Nat.{ℕ, _+_}
 use lib.ListN.{length, take}
 use lib.Seq.{slice}
+use denote.Ref.{now}
 use Rattle.meaning.specs.Case.{Record, recordBytes, flat, Case, records, WellFormed, IsCase, Place}
 use Rattle.meaning.specs.Case.Record.{field, allow, row, candidate, end}
 use Rattle.casefile.specs.declared.Step.{Step}
 use Rattle.casefile.specs.declared.Step.the-variants.{Field, Allow, Row, Candidate, End, Over, Refused}
 use Rattle.casefile.specs.declared.Stepped.{Stepped}
+use Rattle.casefile.specs.declared.Reader.{Reader}
 
 abbrev pub recordOf : List ℕ → Step → Option Record
 recordOf s (Field p n) = some (field p n)
@@ -65,3 +68,6 @@ pub data StepIs (s : List ℕ) (at : ℕ) (r : Stepped) : Type 0 where
   over : Ended s at → r .step ≡ Over → r .next ≡ at → StepIs s at r
   refuses : (k : ℕ) → ((x : Record) → ¬ NextRecord s at x) → ¬ Ended s at → Place s k → refusalOf (r .step) ≡ some (8, k) → r .next ≡ at
       → StepIs s at r
+
+abbrev pub Moved : Reader → Reader → Step → Type 0
+Moved q r x = (r .src ≡ q .src) × StepIs (now (q .src)) (q .at) (record { step = x; next = r .at })

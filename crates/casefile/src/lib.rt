@@ -7,7 +7,7 @@ ghost use Prim.Native.Nat.{_+_, _*_, _≤_, _<_};
 ghost use lib.ListN.{length, drop};
 ghost use lib.Seq.{paste};
 ghost use Rattle.meaning.specs.Bytes.{write};
-ghost use Rattle.casefile.specs.Step.{StepIs};
+ghost use Rattle.casefile.specs.Step.{StepIs, Moved};
 ghost use Rattle.casefile.specs.Reading.{ReadIs};
 ghost use Rattle.casefile.specs.Machine.{sized, letter, entered, after, Reached, ScanIs, fieldAt, bodyAt, recordAt, gathered, rowsAt, allowanceAt};
 use scalar::is_prime;
@@ -399,6 +399,37 @@ pub fn step_at(s: &[u8], at: usize) -> Stepped
         };
     }
     ahead
+}
+
+// A case and the offset of its next record (01: "The reader keeps the case bytes and its place in them").
+pub struct Reader<'a> {
+    src: &'a [u8],
+    at: usize,
+}
+
+impl<'a> Reader<'a> {
+    // The reader at the front of a case.
+    pub fn new(src: &'a [u8]) -> Reader<'a>
+        ensures { λ r. ⌜ (r .src ≡ src .entry) × (r .at ≡ 0) ⌝ }
+    {
+        Reader { src, at: 0 }
+    }
+
+    // What the next step says; the reader's place moves behind a record that is handed out.
+    pub fn next(&mut self) -> Step
+        ensures { λ s. ⌜ Moved (now (self .entry)) (now (self .exit)) s ⌝ }
+    {
+        let stepped = step_at(self.src, self.at);
+        self.at = stepped.next;
+        stepped.step
+    }
+
+    // The bytes of the case, as they were lent: the entries of a record are a stretch of them.
+    pub fn bytes(self) -> &'a [u8]
+        ensures { λ s. ⌜ s ≡ self .entry .src ⌝ }
+    {
+        self.src
+    }
 }
 
 // n bytes of src from `from` on go to dst from `to` on.
