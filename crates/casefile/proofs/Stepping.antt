@@ -1,4 +1,5 @@
--- What a step answers: each answer of the code is one that `StepIs` permits, and any two that it permits agree (`step-unique`).
+-- What a step answers: each answer of the code is one that `StepIs` permits, and any two that it permits agree (`step-unique`); so do any two readers behind
+-- a step (`moved-unique`).
 -- Assumes nothing.
 use mathlib.Core.Path.{_≡_, refl, sym, ap, ap₂, subst, _∙_}
 use mathlib.Core.List.{List, _∷_, _++_, append-cancel-left}
@@ -14,7 +15,8 @@ use Rattle.casefile.specs.declared.State.the-variants.{Start, Over}
 use Rattle.casefile.specs.declared.Step.{Step}
 use Rattle.casefile.specs.declared.Step.the-variants as step
 use Rattle.casefile.specs.declared.Stepped.{Stepped}
-use Rattle.casefile.specs.Step.{recordOf, refusalOf, Stretch, NextRecord, Ended, StepIs}
+use Rattle.casefile.specs.declared.Reader.{Reader}
+use Rattle.casefile.specs.Step.{recordOf, refusalOf, Stretch, NextRecord, Ended, StepIs, Moved}
 use Rattle.casefile.specs.Step.StepIs.{hands, over, refuses}
 use Rattle.casefile.specs.Machine.{run, Good, Reached, recordAt}
 use Rattle.casefile.proofs.Run.{good-alive, run-append}
@@ -202,3 +204,9 @@ step-unique (refuses j n m P i f) (hands x M h e k) = absurd (n x M)
 step-unique (refuses j n m P i f) (over E h e) = absurd (m E)
 step-unique {s} (refuses j n m P i f) (refuses k o l Q h e) =
     stepped-same (step-refused _ j i ∙ ap step.Refused (place-unique s j k P Q) ∙ sym (step-refused _ k h)) (f ∙ sym e)
+
+pub moved-unique : {q a b : Reader} {x y : Step} → Moved q a x → Moved q b y → (a ≡ b) × (x ≡ y)
+moved-unique {a} {b} {x} {y} m n =
+    let same : _≡_ {A = Stepped} (record { step = x; next = a .at }) (record { step = y; next = b .at }) = step-unique (m .1) (n .1) in
+    let src : a .src ≡ b .src = m .0 ∙ sym (n .0) in
+    (λ i. record { src = src i; at = same i .next }, λ i. same i .step)
