@@ -1,6 +1,7 @@
-// Two ways to go through the powers of a machine of 64 rows, so that a benchmark can run both alike: one product per power, and the period call.
+// What a benchmark times on a machine of 64 rows: two ways to go through its powers, one product per power and the period call, and the stand.
 // Standard input has a letter, the modulus and 64·64 entries, row after row; where it ends there are zeros. After the letter `t` 1,024 powers of M
-// are made, each by 64 products of a row with M, and the last power's first row is printed; after any other letter the period is.
+// are made, each by 64 products of a row with M, and the last power's first row is printed; after `s` the stand with the first unit row as its
+// candidate is called 256 times, and its polynomial is printed; after any other letter the period is.
 ghost use mathlib.Core.Path.{_≡_};
 ghost use Prim.Native.Nat.{_<_};
 ghost use lib.ListN.{length};
@@ -54,6 +55,22 @@ fn show_period(p: u8, m: &[u8])
     }
 }
 
+fn show_stand(p: u8, m: &[u8])
+    requires { ⌜ length (now m) ≡ 4096 ⌝ }
+{
+    let candidate = rows::unit_row(0);
+    let mut poly = [0u8; 65];
+    let mut image = [0u8; 64];
+    let mut k = 0u32;
+    while k < 256 {
+        calls::stand(p as u32, 64, m, &candidate, 8192, &mut poly, &mut image);
+        k += 1;
+    }
+    lines::print(b"STAND");
+    lines::print_list(&poly);
+    lines::end_line();
+}
+
 fn run(letter: u8, p: u8, m: &[u8])
     requires { ⌜ length (now m) ≡ 4096 ⌝ }
 {
@@ -62,6 +79,10 @@ fn run(letter: u8, p: u8, m: &[u8])
     }
     if letter == b't' {
         show_power(p, m);
+        return;
+    }
+    if letter == b's' {
+        show_stand(p, m);
         return;
     }
     show_period(p, m);
