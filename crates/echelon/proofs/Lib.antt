@@ -1,4 +1,5 @@
 pub mod Kept
 pub mod Lead
 pub mod Loops
+pub mod Slots
 pub mod Again
