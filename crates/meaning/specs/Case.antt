@@ -12,6 +12,8 @@
 --   defaultAllowance   the allowance without an A record
 --   allowanceIn a  128·high + low, or the default
 --   allowanceOf c  the allowance of a case
+--   matrixBytes c  the matrix, row after row
+--   candidateBytes c   the candidates, one after another
 --   IsCase s c     the bytes s are the well-formed case c
 --   Begins s       some continuation makes s a well-formed case
 --   Place s k      k is the first offset where the bytes up to it and including it begin no well-formed case; the length if all could still be
@@ -19,7 +21,7 @@
 -- Assumes nothing.
 use mathlib.Core.Path.{_≡_}
 use mathlib.Core.Bool.{true}
-use mathlib.Core.List.{List, [], _∷_, _++_, map}
+use mathlib.Core.List.{List, [], _∷_, _++_, map, flatten}
 use mathlib.Core.Option.{Option, none, some}
 use Prim.Native.Nat.{ℕ, suc, _+_, _*_, _<_, _≤_}
 use lib.ListN.{length, take}
@@ -88,6 +90,12 @@ allowanceIn (some a) = 128 * a .0 + a .1
 
 abbrev pub allowanceOf : Case → ℕ
 allowanceOf c = allowanceIn (c .allowance)
+
+abbrev pub matrixBytes : Case → List ℕ
+matrixBytes c = flatten (c .matrix)
+
+abbrev pub candidateBytes : Case → List ℕ
+candidateBytes c = flatten (c .candidates)
 
 pub record IsCase (s : List ℕ) (c : Case) : Type 0 where
   pub well-formed : WellFormed c

@@ -7,3 +7,6 @@ pub mod Period
 pub mod Refusal
 pub mod Calls
 pub mod Case
+pub mod Ascii
+pub mod Line
+pub mod Sheet
