@@ -2,3 +2,9 @@ pub mod Bytes
 pub mod Refusal
 pub mod Unique
 pub mod Degrees
+pub mod Front
+pub mod Line
+pub mod Print
+pub mod Sheet
+pub mod SheetRoom
+pub mod Case

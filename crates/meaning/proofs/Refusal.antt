@@ -221,7 +221,7 @@ period-sound p n m q =
     let c = first-clear _ q in
     sound p n m (c 0) (c 1) (c 2) (c 3)
 
--- and the other way round, for stand: sound inputs are not refused
+-- and the other way round: sound inputs are not refused by the calls that a sheet makes
 pub sound-stand : (p n : ℕ) (m cs poly image : List ℕ) → Sound p n m → SoundRows p n cs → n + 1 ≤ length poly → n ≤ length image
     → standRefusal p n m cs poly image ≡ none
 unfolding standRefusal first
@@ -229,3 +229,16 @@ sound-stand p n m cs poly image A B h k =
     rw (prime-noPrime p (A .prime) (A .most), size-noSize n (A .some-size) (A .size), matrix-noMatrix n m (A .matrix))
     (rw (rows-noRows n cs (A .some-size) _ (B .whole) (B .few), small-badEntry p m (A .entries), small-badEntry p cs (B .entries))
     (rw (long-tooShort (n + 1) poly h, long-tooShort n image k)))
+
+pub sound-chain : (p n : ℕ) (m cs product stages : List ℕ) → Sound p n m → SoundRows p n cs → n + 1 ≤ length product → 2 * n ≤ length stages
+    → chainRefusal p n m cs product stages ≡ none
+unfolding chainRefusal first
+sound-chain p n m cs product stages A B h k =
+    rw (prime-noPrime p (A .prime) (A .most), size-noSize n (A .some-size) (A .size), matrix-noMatrix n m (A .matrix))
+    (rw (rows-noRows n cs (A .some-size) _ (B .whole) (B .few), small-badEntry p m (A .entries), small-badEntry p cs (B .entries))
+    (rw (long-tooShort (n + 1) product h, long-tooShort (2 * n) stages k)))
+
+pub sound-period : (p n : ℕ) (m : List ℕ) → Sound p n m → periodRefusal p n m ≡ none
+unfolding periodRefusal first
+sound-period p n m A =
+    rw (prime-noPrime p (A .prime) (A .most), size-noSize n (A .some-size) (A .size), matrix-noMatrix n m (A .matrix), small-badEntry p m (A .entries))

@@ -15,6 +15,7 @@
 --   matrixBytes c  the matrix, row after row
 --   candidateBytes c   the candidates, one after another
 --   IsCase s c     the bytes s are the well-formed case c
+--   longestCase    so many bytes the longest case has
 --   Begins s       some continuation makes s a well-formed case
 --   Place s k      k is the first offset where the bytes up to it and including it begin no well-formed case; the length if all could still be
 --                  continued
@@ -100,6 +101,9 @@ candidateBytes c = flatten (c .candidates)
 pub record IsCase (s : List ℕ) (c : Case) : Type 0 where
   pub well-formed : WellFormed c
   pub whole : s ≡ caseBytes c
+
+abbrev pub longestCase : ℕ
+longestCase = 12682
 
 pub record Begins (s : List ℕ) : Type 0 where
   pub rest : List ℕ

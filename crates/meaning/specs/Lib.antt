@@ -10,3 +10,4 @@ pub mod Case
 pub mod Ascii
 pub mod Line
 pub mod Sheet
+pub mod Print
