@@ -16,7 +16,7 @@ use Rattle.meaning.proofs.Unique.{order-only, stand-only, witness-only, chain-o
 use Rattle.promises.specs.Run.{periodOf}
 use Rattle.promises.proofs.Found.{inverse-found, order-found, stand-found, chain-found, period-found}
 
-refused-given : {A : Type 0} (k : ℕ) (r : A) → ¬ (refused k ≡ given r)
+pub refused-given : {A : Type 0} (k : ℕ) (r : A) → ¬ (refused k ≡ given r)
 refused-given k r e = let z : _≡_ {A = ℕ} 0 1 = cc in omega arith
 
 -- a refusal: the number that the table gives, and nothing lent has changed

@@ -29,18 +29,12 @@ use Rattle.meaning.proofs.Bytes.{times-machine, times-linear, e-below, bytes-le
 use Rattle.meaning.proofs.Refusal.{small-append}
 use Rattle.meaning.proofs.Unique.{alike-degs, tested-only, outcome-path}
 use Rattle.promises.specs.Run.{ordersOf, standOf}
-use Rattle.meaning.proofs.Degrees.{stand-degree, order-degree}
+use Rattle.meaning.proofs.Degrees.{orders-count, stand-degree, order-degree}
 use Rattle.promises.proofs.Found.{ordersOf-orders, stand-found}
 use Rattle.promises.specs.Additions.{added, Run, start, more, Added, Reached}
 use Rattle.promises.proofs.Demand2.{polynomial-least, polynomial-divides, proved-minimal, minimal-proved, short-witness}
 
 -- rows and their orders, one for each
-orders-count : {p : ℕ} (X : S p → S p) (vs : List (S p)) (os : List (Order p)) → Orders X vs os → length (degs os) ≡ length vs
-orders-count X [] [] O = refl
-orders-count X [] (o ∷ os) O = absurd O
-orders-count X (v ∷ vs) [] O = absurd O
-orders-count X (v ∷ vs) (o ∷ os) O = ap suc (orders-count X vs os (O .1))
-
 -- more rows behind leave the degrees of the front as they are
 orders-front : {p : ℕ} {X : S p → S p} → Prime p → Linear X → (vs ws : List (S p)) (os qs : List (Order p)) → Orders X vs os → Orders X (vs ++ ws) qs
     → (t : ℕ) → t ≤ length vs → take t (degs os) ≡ take t (degs qs)

@@ -4,3 +4,4 @@ pub mod Figures
 pub mod Demand2
 pub mod Demand3
 pub mod Answers
+pub mod Sheet

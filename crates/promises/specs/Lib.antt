@@ -3,3 +3,4 @@ pub mod Figures
 pub mod Witness
 pub mod Additions
 pub mod CallRun
+pub mod Sheet
