@@ -15,11 +15,6 @@ pub struct Record {
 }
 
 impl Record {
-    /// The offset of its mark.
-    pub fn begin(&self) -> usize {
-        self.start - 2
-    }
-
     pub fn end(&self) -> usize {
         self.start + self.numbers.len()
     }

@@ -1,9 +1,5 @@
-pub mod Run
-pub mod Records
-pub mod Place
-pub mod Ahead
-pub mod Stepping
-pub mod Tags
-pub mod Copies
-pub mod Values
-pub mod Unique
+pub mod Gathered
+pub mod Handed
+pub mod Noting
+pub mod Underway
+pub mod Results

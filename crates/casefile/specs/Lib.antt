@@ -1,3 +1,2 @@
-pub mod Step
 pub mod Reading
-pub mod Machine
+pub mod Gathered

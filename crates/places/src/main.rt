@@ -27,11 +27,7 @@ fn answer(line: &[u8]) {
         return;
     }
     if lines::named(line, b"steps") {
-        stepping::answer_all(line);
-        return;
-    }
-    if lines::named(line, b"step") {
-        stepping::answer_one(line);
+        stepping::answer(line);
         return;
     }
     lines::print(b" unknown");

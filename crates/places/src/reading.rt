@@ -1,4 +1,6 @@
-// A whole file: file | matrix buffer | candidate buffer.
+// A whole file: file.
+ghost use Prim.Native.Nat.{_≤_};
+ghost use lib.ListN.{length};
 use crate::refuse;
 use crate::skip;
 use casefile::Reading;
@@ -9,57 +11,56 @@ pub fn answer(line: &[u8], whole: bool) {
     let file = lines::fill(lines::group(line, 0), &mut f);
     let k = file.count;
     if file.whole {
-        answer_with(line, &f[..k], whole);
+        read(&f[..k], whole);
     } else {
         skip();
     }
 }
 
-fn answer_with(line: &[u8], file: &[u8], whole: bool) {
-    let mut m = [0u8; 4200];
-    let matrix = lines::fill(lines::group(line, 1), &mut m);
-    let k = matrix.count;
-    let mut cs = [0u8; 8400];
-    let candidates = lines::fill(lines::group(line, 2), &mut cs);
-    let d = candidates.count;
-    if matrix.whole && candidates.whole {
-        read(file, &mut m[..k], &mut cs[..d], whole);
-    } else {
-        skip();
-    }
-}
-
-fn read(file: &[u8], m: &mut [u8], cs: &mut [u8], whole: bool) {
-    let reading = casefile::read(file, m, cs);
-    match reading {
+fn read(file: &[u8], whole: bool) {
+    let contents = casefile::read(file);
+    let answer = contents.answer;
+    let matrix = contents.matrix;
+    let candidates = contents.candidates;
+    match answer {
         Reading::Case {
             p,
             n,
             allowance,
             count,
         } => {
-            lines::print(b" case");
-            lines::print_number(p as u64);
-            lines::print_number(n as u64);
-            lines::print_number(allowance as u64);
-            lines::print_number(count as u64);
+            show_case(p, n, allowance, count);
+            show(&matrix, n * n, whole);
+            show(&candidates, count * n, whole);
         }
-        Reading::Short => lines::print(b" refused 6"),
-        Reading::Refused(place) => refuse(place),
+        Reading::Refused(place) => {
+            refuse(place);
+            show(&matrix, 0, whole);
+            show(&candidates, 0, whole);
+        }
     }
-    show(m, whole);
-    show(cs, whole);
 }
 
-// A buffer whole, or its length and its weight.
-fn show(buffer: &[u8], whole: bool) {
+fn show_case(p: u32, n: usize, allowance: u32, count: usize) {
+    lines::print(b" case");
+    lines::print_number(p as u64);
+    lines::print_number(n as u64);
+    lines::print_number(allowance as u64);
+    lines::print_number(count as u64);
+}
+
+// The first k bytes, or how many they are; then the weight of all bytes, so that one behind them would be seen.
+fn show(s: &[u8], k: usize, whole: bool)
+    requires { ⌜ k ≤ length (now s) ⌝ }
+{
     lines::print(b" |");
     if whole {
-        lines::print_list(buffer);
+        lines::print_list(&s[..k]);
     } else {
-        lines::print_number(buffer.len() as u64);
-        lines::print_number(weight(buffer) as u64);
+        lines::print_number(k as u64);
     }
+    lines::print(b" :");
+    lines::print_number(weight(s) as u64);
 }
 
 fn wide(x: u8) -> u32 {

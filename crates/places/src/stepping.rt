@@ -1,11 +1,12 @@
-// Steps of the reader: all from offset 0 on (file), or one at an offset (offset | file).
-ghost use Prim.Native.Nat.{_≤_, _<_};
-ghost use lib.ListN.{length};
+// Every step of the reader, from the front on: file.
+ghost use Rattle.reader.specs.Step.{StepIs};
 use crate::refuse;
 use crate::skip;
-use casefile::Step;
+use reader::Cursor;
+use reader::Step;
+use reader::Stepped;
 
-pub fn answer_all(line: &[u8]) {
+pub fn answer(line: &[u8]) {
     let mut f = [0u8; 12800];
     let file = lines::fill(lines::group(line, 0), &mut f);
     let k = file.count;
@@ -16,54 +17,45 @@ pub fn answer_all(line: &[u8]) {
     }
 }
 
-pub fn answer_one(line: &[u8]) {
-    let mut f = [0u8; 12800];
-    let file = lines::fill(lines::group(line, 1), &mut f);
-    let k = file.count;
-    if file.whole {
-        step(&f[..k], lines::number(lines::group(line, 0)) as usize);
-    } else {
-        skip();
-    }
-}
-
-// The steps from offset 0 on. The last one, which hands out no record, is made twice: it must say the same again.
+// The last step, which hands out no record, is made twice: it must say the same again.
 fn walk(s: &[u8]) {
-    let mut at = 0;
-    let mut next = step(s, at);
-    while at < next {
-        at = next;
-        next = step(s, at);
+    let mut at = reader::front();
+    loop {
+        let stepped = step(s, at);
+        at = stepped.next;
+        let said = stepped.step;
+        match said {
+            Step::Over => break,
+            Step::Refused(_) => break,
+            _ => {}
+        }
     }
     step(s, at);
 }
 
-// Makes the step at an offset and prints it. Answers the offset for the next one.
-fn step(s: &[u8], at: usize) -> usize
-    ensures { λ r. ⌜ (at ≤ r) × (at < r → r ≤ length (now (s .entry))) ⌝ }
+// Makes a step and prints it.
+fn step(s: &[u8], at: Cursor) -> Stepped
+    ensures { λ r. ⌜ StepIs (now (s .entry)) (at .at) r ⌝ }
 {
-    let stepped = casefile::step_at(s, at);
-    let step = stepped.step;
-    let next = stepped.next;
+    let stepped = reader::step_from(s, at);
+    let said = stepped.step;
     lines::print(b" |");
-    match step {
+    match said {
         Step::Field { p, n } => show_field(p, n),
         Step::Allow { high, low } => show_allow(high, low),
-        Step::Row { start, end } => {
+        Step::Row => {
             lines::print(b" row");
-            show_entries(s, start, end);
+            lines::print_list(reader::entries(s, stepped));
         }
-        Step::Candidate { start, end } => {
+        Step::Candidate => {
             lines::print(b" candidate");
-            show_entries(s, start, end);
+            lines::print_list(reader::entries(s, stepped));
         }
         Step::End => lines::print(b" end"),
         Step::Over => lines::print(b" over"),
         Step::Refused(place) => refuse(place),
     }
-    lines::print(b" ->");
-    lines::print_number(next as u64);
-    next
+    stepped
 }
 
 fn show_field(p: u32, n: usize) {
@@ -76,14 +68,4 @@ fn show_allow(high: u8, low: u8) {
     lines::print(b" allow");
     lines::print_byte(high);
     lines::print_byte(low);
-}
-
-// The file's bytes from start to end, end excluded, behind these offsets.
-fn show_entries(s: &[u8], start: usize, end: usize)
-    requires { ⌜ (start ≤ end) × (end ≤ length (now s)) ⌝ }
-{
-    lines::print_number(start as u64);
-    lines::print_number(end as u64);
-    lines::print(b" :");
-    lines::print_list(&s[start..end]);
 }

@@ -3,14 +3,13 @@
 //!
 //!     cargo run --release --manifest-path rust/Cargo.toml --bin places < crates/places/stdin > crates/places/stdout
 //!
-//! A line names what is asked of the case reader and gives the file, in groups:
+//! A line names what is asked of the case reader and gives the file:
 //!
-//!     read   file | matrix buffer | candidate buffer      a whole file: the answer, and each buffer whole
-//!     weigh  file | matrix buffer | candidate buffer      the same, and of each buffer the length and a sum of its bytes, each times its place
-//!     steps  file                                         every step from offset 0 on; the last, which hands out no record, twice
-//!     step   offset | file                                one step at an offset
+//!     read   file    a whole file: the answer, the matrix and the candidates, and behind each the weight of its array
+//!     weigh  file    the same, with how many bytes the matrix and the candidates have in their place
+//!     steps  file    every step from the front on; the last, which hands out no record, twice
 //!
-//! A step is printed as the record, its entries with the offsets from and to which they are the file's bytes, and behind `->` the offset for the next step.
+//! The weight of an array is the sum of its bytes, each times its place. Zeros behind the values add nothing to it.
 use kinarsop::grammar::{self, Record};
 use kinarsop::lines::{self, list, Line};
 
@@ -25,105 +24,62 @@ fn refused(place: usize) -> String {
     format!("refused 8 {place}")
 }
 
-/// The buffer with the written bytes at its front, if they fit.
-fn written(buffer: &[u64], front: &[u64]) -> Option<Vec<u64>> {
-    let rest = buffer.get(front.len()..)?;
-    Some([front, rest].concat())
+/// The sum of the bytes, each times its place counted from 1, modulo 2^32.
+fn weight(bytes: &[u64]) -> u64 {
+    let sum: u64 = (1..).zip(bytes).map(|(i, x)| i * x).sum();
+    sum % (1 << 32)
 }
 
-/// The answer, and both buffers afterwards.
-fn read(line: &Line) -> (String, [Vec<u64>; 2]) {
-    let (file, m, cs) = (bytes(line, 0), bytes(line, 1), bytes(line, 2));
-    let unchanged = [m.to_vec(), cs.to_vec()];
-    let Some(c) = grammar::values(file) else {
-        return (refused(grammar::place(file)), unchanged);
+/// The answer; then the matrix and the candidates, as `show` has them, each with its weight.
+fn read(file: &[u64], show: fn(&[u64]) -> String) -> String {
+    let (answer, parts) = match grammar::values(file) {
+        Some(c) => {
+            let count = c.candidates.len() / c.n as usize;
+            let answer = format!("case {} {} {} {count}", c.p, c.n, c.allowance);
+            (answer, [c.matrix, c.candidates])
+        }
+        None => (refused(grammar::place(file)), [vec![], vec![]]),
     };
-    let count = c.candidates.len() / c.n as usize;
-    match (written(m, &c.matrix), written(cs, &c.candidates)) {
-        (Some(m), Some(cs)) => (
-            format!("case {} {} {} {count}", c.p, c.n, c.allowance),
-            [m, cs],
-        ),
-        _ => ("refused 6".to_string(), unchanged),
-    }
+    let shown = parts.map(|bytes| format!(" |{} : {}", show(&bytes), weight(&bytes)));
+    answer + &shown.concat()
 }
 
-/// The length, and the sum of the bytes, each times its place counted from 1, modulo 2^32.
-fn weight(buffer: &[u64]) -> String {
-    let sum: u64 = (1..).zip(buffer).map(|(i, x)| i * x).sum();
-    format!("{} {}", buffer.len(), sum % (1 << 32))
+fn each(bytes: &[u64]) -> String {
+    bytes.iter().map(|x| format!(" {x}")).collect()
 }
 
-fn shown((answer, buffers): (String, [Vec<u64>; 2]), show: fn(&[u64]) -> String) -> String {
-    let mut text = answer;
-    for buffer in &buffers {
-        text.push_str(&format!(" | {}", show(buffer)));
-        text.truncate(text.trim_end().len());
-    }
-    text
+fn size(bytes: &[u64]) -> String {
+    format!(" {}", bytes.len())
 }
 
 fn describe(r: &Record) -> String {
-    let numbers = list(&r.numbers);
-    let entries = format!("{} {} : {numbers}", r.start, r.end());
-    match r.letter {
-        b'F' => format!("field {numbers}"),
-        b'A' => format!("allow {numbers}"),
-        b'R' => format!("row {entries}"),
-        b'C' => format!("candidate {entries}"),
-        _ => "end".to_string(),
-    }
+    let name = match r.letter {
+        b'F' => "field",
+        b'A' => "allow",
+        b'R' => "row",
+        b'C' => "candidate",
+        _ => return "| end".to_string(),
+    };
+    format!("| {name} {}", list(&r.numbers))
 }
 
-/// A file with what its steps give.
-struct Steps {
-    length: usize,
-    place: usize,
-    records: Vec<Record>,
-    whole: bool,
-}
-
-impl Steps {
-    fn of(file: &[u64]) -> Self {
-        Steps {
-            length: file.len(),
-            place: grammar::place(file),
-            records: grammar::records(file),
-            whole: grammar::values(file).is_some(),
-        }
-    }
-
-    /// The record that begins at the offset, if it lies wholly before the place.
-    fn record(&self, at: usize) -> Option<&Record> {
-        self.records.iter().find(|r| r.begin() == at)
-    }
-
-    fn step(&self, at: usize) -> String {
-        if let Some(r) = self.record(at) {
-            return format!("| {} -> {}", describe(r), r.end());
-        }
-        if self.whole && at == self.length {
-            return format!("| over -> {at}");
-        }
-        format!("| {} -> {at}", refused(self.place))
-    }
-
-    /// The records, then twice the step behind them, which says the same again.
-    fn all(&self) -> String {
-        let mut offsets: Vec<usize> = self.records.iter().map(Record::begin).collect();
-        let last = self.records.last().map_or(0, Record::end);
-        offsets.extend([last, last]);
-        let steps: Vec<String> = offsets.iter().map(|&at| self.step(at)).collect();
-        steps.join(" ")
-    }
+/// The records that lie wholly before the place, then twice the step behind them, which says the same again.
+fn steps(file: &[u64]) -> String {
+    let last = match grammar::values(file) {
+        Some(_) => "| over".to_string(),
+        None => format!("| {}", refused(grammar::place(file))),
+    };
+    let mut steps: Vec<String> = grammar::records(file).iter().map(describe).collect();
+    steps.extend([last.clone(), last]);
+    steps.join(" ")
 }
 
 fn answer(line: &Line) -> String {
+    let file = bytes(line, 0);
     match line.word {
-        "read" => shown(read(line), list),
-        "weigh" => shown(read(line), weight),
-        "steps" => Steps::of(bytes(line, 0)).all(),
-        "step" => Steps::of(bytes(line, 1)).step(line.number(0) as usize),
+        "read" => read(file, each),
+        "weigh" => read(file, size),
+        "steps" => steps(file),
         word => panic!("{word} asks nothing of the reader"),
     }
 }

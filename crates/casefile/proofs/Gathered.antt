@@ -1,0 +1,126 @@
+-- The values that records come to, one after another.
+--   notedAll-append   records behind records
+--   gathered-more     one more record at the end is one more `noted`
+--   gathered-case     the records of a case come to the case
+--   Starts xs x       a well-formed case has the records xs, and then x
+--   starts-room       so there is a place for x behind what xs come to
+-- Assumes nothing.
+use mathlib.Core.Path.{_≡_, refl, sym, ap, subst, _∙_}
+use mathlib.Core.List.{List, [], _∷_, _++_, map, flatten, append-assoc, append-nil}
+use mathlib.Core.Option.{Option, none, some}
+use Prim.Native.Nat.{ℕ, suc, _*_, _<_, _≤_}
+use native.Mathlib.Nat.{mul-le-mul, suc-mul}
+use native.Mathlib.Omega.{arith}
+use lib.ListN.{length, length-append}
+use Rattle.meaning.specs.Case.{Record, Case, allowRecord, records, RowsOf, WellFormed}
+use Rattle.meaning.specs.Case.Record.{field, allow, row, candidate, end}
+use Rattle.meaning.proofs.Case.{flatten-length}
+use Rattle.casefile.specs.Gathered.{noValues, noted, notedAll, gathered, Behind, RoomFor}
+
+pub notedAll-append : (g : Case) (xs ys : List Record) → notedAll g (xs ++ ys) ≡ notedAll (notedAll g xs) ys
+unfolding notedAll
+notedAll-append g [] ys = refl
+notedAll-append g (x ∷ xs) ys = notedAll-append (noted g x) xs ys
+
+pub gathered-more : (xs : List Record) (x : Record) → gathered (xs ++ (x ∷ [])) ≡ noted (gathered xs) x
+unfolding notedAll
+gathered-more xs x = notedAll-append noValues xs (x ∷ [])
+
+-- all rows, all candidates
+notedAll-rows : (p n : ℕ) (a : Option (ℕ × ℕ)) (ms cs ls : List (List ℕ)) (xs : List Record)
+    → notedAll (record { p = p; n = n; allowance = a; matrix = ms; candidates = cs }) (map row ls ++ xs)
+    ≡ notedAll (record { p = p; n = n; allowance = a; matrix = ms ++ ls; candidates = cs }) xs
+unfolding notedAll
+notedAll-rows p n a ms cs [] xs = ap (λ m. notedAll (record { p = p; n = n; allowance = a; matrix = m; candidates = cs }) xs) (sym (append-nil ms))
+notedAll-rows p n a ms cs (l ∷ ls) xs =
+    notedAll-rows p n a (ms ++ (l ∷ [])) cs ls xs
+    ∙ ap (λ m. notedAll (record { p = p; n = n; allowance = a; matrix = m; candidates = cs }) xs) (append-assoc ms (l ∷ []) ls)
+
+notedAll-candidates : (p n : ℕ) (a : Option (ℕ × ℕ)) (ms cs ls : List (List ℕ)) (xs : List Record)
+    → notedAll (record { p = p; n = n; allowance = a; matrix = ms; candidates = cs }) (map candidate ls ++ xs)
+    ≡ notedAll (record { p = p; n = n; allowance = a; matrix = ms; candidates = cs ++ ls }) xs
+unfolding notedAll
+notedAll-candidates p n a ms cs [] xs = ap (λ m. notedAll (record { p = p; n = n; allowance = a; matrix = ms; candidates = m }) xs) (sym (append-nil cs))
+notedAll-candidates p n a ms cs (l ∷ ls) xs =
+    notedAll-candidates p n a ms (cs ++ (l ∷ [])) ls xs
+    ∙ ap (λ m. notedAll (record { p = p; n = n; allowance = a; matrix = ms; candidates = m }) xs) (append-assoc cs (l ∷ []) ls)
+
+notedAll-tail : (p n : ℕ) (a : Option (ℕ × ℕ)) (ms cs : List (List ℕ))
+    → notedAll (record { p = p; n = n; allowance = a; matrix = []; candidates = [] }) (map row ms ++ (map candidate cs ++ (end ∷ [])))
+    ≡ record { p = p; n = n; allowance = a; matrix = ms; candidates = cs }
+unfolding notedAll
+notedAll-tail p n a ms cs = notedAll-rows p n a [] [] ms (map candidate cs ++ (end ∷ [])) ∙ notedAll-candidates p n a ms [] cs (end ∷ [])
+
+gathered-parts : (p n : ℕ) (a : Option (ℕ × ℕ)) (ms cs : List (List ℕ))
+    → gathered (field p n ∷ (allowRecord a ++ (map row ms ++ (map candidate cs ++ (end ∷ [])))))
+    ≡ record { p = p; n = n; allowance = a; matrix = ms; candidates = cs }
+unfolding notedAll
+gathered-parts p n none ms cs = notedAll-tail p n none ms cs
+gathered-parts p n (some a) ms cs = notedAll-tail p n (some a) ms cs
+
+pub gathered-case : (c : Case) → gathered (records c) ≡ c
+unfolding records
+gathered-case c = gathered-parts (c .p) (c .n) (c .allowance) (c .matrix) (c .candidates)
+
+-- what is there stays, and more comes behind it
+notedAll-matrix : (g : Case) (xs : List Record) → (ls : List (List ℕ)) × (notedAll g xs .matrix ≡ g .matrix ++ ls)
+unfolding notedAll
+notedAll-matrix g [] = ([], sym (append-nil (g .matrix)))
+notedAll-matrix g (field p n ∷ xs) = notedAll-matrix (noted g (field p n)) xs
+notedAll-matrix g (allow high low ∷ xs) = notedAll-matrix (noted g (allow high low)) xs
+notedAll-matrix g (row l ∷ xs) = let i = notedAll-matrix (noted g (row l)) xs in (l ∷ i .0, i .1 ∙ append-assoc (g .matrix) (l ∷ []) (i .0))
+notedAll-matrix g (candidate l ∷ xs) = notedAll-matrix (noted g (candidate l)) xs
+notedAll-matrix g (end ∷ xs) = notedAll-matrix g xs
+
+notedAll-listed : (g : Case) (xs : List Record) → (ls : List (List ℕ)) × (notedAll g xs .candidates ≡ g .candidates ++ ls)
+unfolding notedAll
+notedAll-listed g [] = ([], sym (append-nil (g .candidates)))
+notedAll-listed g (field p n ∷ xs) = notedAll-listed (noted g (field p n)) xs
+notedAll-listed g (allow high low ∷ xs) = notedAll-listed (noted g (allow high low)) xs
+notedAll-listed g (row l ∷ xs) = notedAll-listed (noted g (row l)) xs
+notedAll-listed g (candidate l ∷ xs) = let i = notedAll-listed (noted g (candidate l)) xs in (l ∷ i .0, i .1 ∙ append-assoc (g .candidates) (l ∷ []) (i .0))
+notedAll-listed g (end ∷ xs) = notedAll-listed g xs
+
+-- rows of n entries
+rows-front : (p n : ℕ) (xs ys : List (List ℕ)) → RowsOf p n (xs ++ ys) → RowsOf p n xs
+rows-front p n [] ys r = tt
+rows-front p n (x ∷ xs) ys r = (r .0, rows-front p n xs ys (r .1))
+
+rows-last : (p n : ℕ) (xs : List (List ℕ)) (l : List ℕ) → RowsOf p n (xs ++ (l ∷ [])) → length l ≡ n
+rows-last p n [] l r = r .0 .0
+rows-last p n (x ∷ xs) l r = rows-last p n xs l (r .1)
+
+rows-behind : (p n most : ℕ) (whole xs ys : List (List ℕ)) (l : List ℕ) → RowsOf p n whole → whole ≡ (xs ++ (l ∷ [])) ++ ys → length whole ≤ most → n ≤ 64
+    → Behind (length xs) most (most * 64) (flatten xs) l
+rows-behind p n most whole xs ys l r e few small =
+    let these : RowsOf p n (xs ++ (l ∷ [])) = rows-front p n (xs ++ (l ∷ [])) ys (subst (RowsOf p n) e r) in
+    let size = flatten-length p n xs (rows-front p n xs (l ∷ []) these) in
+    let long : length l ≡ n = rows-last p n xs l these in
+    let fewer : length xs < most = omega (arith, ap length e, length-append (xs ++ (l ∷ [])) ys, length-append xs (l ∷ [])) in
+    let most-bytes : suc (length xs) * n ≤ most * 64 = mul-le-mul fewer small in
+    record { fewer = fewer; place = size ∙ ap (λ k. length xs * k) (sym long); fits = omega (arith, suc-mul (length xs) n) }
+
+pub record Starts (xs : List Record) (x : Record) : Type 0 where
+  pub case : Case
+  pub well-formed : WellFormed case
+  pub to-come : List Record
+  pub listed : records case ≡ xs ++ (x ∷ to-come)
+
+starts-noted : {xs : List Record} {x : Record} (f : Starts xs x) → f .case ≡ notedAll (noted (gathered xs) x) (f .to-come)
+unfolding notedAll
+starts-noted {xs} {x} f = sym (gathered-case (f .case)) ∙ ap gathered (f .listed) ∙ notedAll-append noValues xs (x ∷ f .to-come)
+
+pub starts-room : (xs : List Record) (x : Record) → Starts xs x → RoomFor (gathered xs) x
+starts-room xs (field p n) f = tt
+starts-room xs (allow high low) f = tt
+starts-room xs (row l) f =
+    let w = f .well-formed in
+    let g : Case = gathered xs in
+    let i = notedAll-matrix (noted g (row l)) (f .to-come) in
+    rows-behind (f .case .p) (f .case .n) 64 (f .case .matrix) (g .matrix) (i .0) l (w .rows) (ap (λ (c : Case). c .matrix) (starts-noted f) ∙ i .1) (omega (arith, w .square, w .most)) (w .most)
+starts-room xs (candidate l) f =
+    let w = f .well-formed in
+    let g : Case = gathered xs in
+    let i = notedAll-listed (noted g (candidate l)) (f .to-come) in
+    rows-behind (f .case .p) (f .case .n) 128 (f .case .candidates) (g .candidates) (i .0) l (w .listed) (ap (λ (c : Case). c .candidates) (starts-noted f) ∙ i .1) (w .few) (w .most)
+starts-room xs end f = tt
