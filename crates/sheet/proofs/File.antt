@@ -1,0 +1,105 @@
+-- The sheet of a file, from what reading it gave.
+--   CaseRead s p n a count m cs   the values read are those of the case that the file is
+--   read-case, read-refused       what an answer of each kind says
+--   read-sound                    no call refuses the values read
+--   case-file, refused-file       the text is the file's sheet
+--   room-six, room-none           when the call refuses
+-- Assumes nothing.
+use mathlib.Core.Path.{_≡_, refl, sym, ap, ap₂, _∙_, subst}
+use mathlib.Core.List.{List, [], _∷_}
+use mathlib.Core.Option.{none, some, Option·none-ne-some, Option·some-injective}
+use Prim.Native.Nat.{ℕ, _*_, _^_, _<_, _≤_}
+use native.Mathlib.Nat.{mul-le-mul}
+use native.Mathlib.Omega.{arith}
+use lib.ListN.{length, take}
+use lib.Seq.{take-at}
+use borrow.Author.Tests.{lt-ltb}
+use Rattle.meaning.specs.Bytes.{padded}
+use Rattle.meaning.specs.Bounds.{Sound, SoundRows}
+use Rattle.meaning.specs.Refusal.{first, tooShort}
+use Rattle.meaning.specs.Case.{Case, IsCase, allowanceOf, matrixBytes, candidateBytes, Place}
+use Rattle.meaning.specs.Line.{text}
+use Rattle.meaning.specs.Sheet.{refusedLine, SheetLines, sheet, refused, sheetRoom}
+use Rattle.meaning.proofs.Case.{flatten-length, case-sound, case-sound-rows}
+use Rattle.meaning.proofs.Refusal.{none-first, long-tooShort}
+use Rattle.meaning.proofs.SheetRoom.{refused-room}
+use Rattle.text.specs.declared.Text.{Text}
+use Rattle.text.specs.Text.{IsText}
+use Rattle.casefile.specs.declared.Reading.the-variants as answer
+use Rattle.casefile.specs.declared.Contents.{Contents}
+use Rattle.casefile.specs.Reading.{matrixRoom, candidateRoom, valuesOf, refusalOf, ReadIs, reads, refuses}
+use Rattle.sheet.specs.Lines.{CaseText, FileText}
+
+pub record CaseRead (s : List ℕ) (p n a count : ℕ) (m cs : List ℕ) : Type 0 where
+  pub case : Case
+  pub is : IsCase s case
+  pub prime : case .p ≡ p
+  pub size : case .n ≡ n
+  pub allowance : allowanceOf case ≡ a
+  pub matrix : matrixBytes case ≡ take (n * n) m
+  pub candidates : candidateBytes case ≡ take (count * n) cs
+  pub entries : n * n ≤ matrixRoom
+  pub rows : count * n ≤ candidateRoom
+
+padded-take : (k j : ℕ) (l : List ℕ) → length l ≡ k → l ≡ take k (padded j l)
+unfolding padded
+padded-take k j l q = sym (take-at l _ k q)
+
+pub read-case : {s : List ℕ} {r : Contents} {p n a count : ℕ} → ReadIs s r → r .answer ≡ answer.Case p n a count → CaseRead s p n a count (r .matrix) (r .candidates)
+read-case {s} {r} {p} {n} {a} {count} (reads c i v f g) q =
+    let w = i .well-formed in
+    let e = Option·some-injective (p, n, a, count) (c .p, c .n, allowanceOf c, length (c .candidates)) (sym (ap valuesOf q) ∙ v) in
+    let size : c .n ≡ n = sym (ap (λ x. x .1) e) in
+    let number : length (c .candidates) ≡ count = sym (ap (λ x. x .3) e) in
+    let side : n ≤ 64 = omega (arith, w .most) in
+    let few : count ≤ 128 = omega (arith, w .few) in
+    record {
+      case = c;
+      is = i;
+      prime = sym (ap (λ x. x .0) e);
+      size = size;
+      allowance = sym (ap (λ x. x .2) e);
+      matrix = padded-take (n * n) _ (matrixBytes c) (case-sound c w .matrix ∙ ap (λ k. k * k) size) ∙ ap (take (n * n)) (sym f);
+      candidates = padded-take (count * n) _ (candidateBytes c) (flatten-length (c .p) (c .n) (c .candidates) (w .listed) ∙ ap₂ _*_ number size) ∙ ap (take (count * n)) (sym g);
+      entries = mul-le-mul side side;
+      rows = mul-le-mul few side;
+    }
+read-case (refuses k none-is at v f g) q = absurd (Option·none-ne-some _ (sym (ap refusalOf q) ∙ v))
+
+pub read-refused : {s : List ℕ} {r : Contents} {k : ℕ} → ReadIs s r → r .answer ≡ answer.Refused k → ((c : Case) → ¬ IsCase s c) × Place s k
+read-refused (reads c i v f g) q = absurd (Option·none-ne-some _ (sym (ap valuesOf q) ∙ v))
+read-refused {s} {r} {k} (refuses j none-is at v f g) q =
+    let e = Option·some-injective (8, k) (8, j) (sym (ap refusalOf q) ∙ v) in
+    (none-is, subst (Place s) (sym (ap (λ x. x .1) e)) at)
+
+-- what holds of the case's values holds of those read
+carried : (P : ℕ → ℕ → List ℕ → List ℕ → ℕ → Type 0) {s : List ℕ} {p n a count : ℕ} {m cs : List ℕ} (R : CaseRead s p n a count m cs)
+    → P (R .case .p) (R .case .n) (matrixBytes (R .case)) (candidateBytes (R .case)) (allowanceOf (R .case)) → P p n (take (n * n) m) (take (count * n) cs) a
+carried P {s} {p} {n} {a} {count} {m} {cs} R h =
+    let c = R .case in
+    subst (λ x. P p n (take (n * n) m) (take (count * n) cs) x) (R .allowance)
+    (subst (λ x. P p n (take (n * n) m) x (allowanceOf c)) (R .candidates)
+    (subst (λ x. P p n x (candidateBytes c) (allowanceOf c)) (R .matrix)
+    (subst (λ x. P p x (matrixBytes c) (candidateBytes c) (allowanceOf c)) (R .size)
+    (subst (λ x. P x (c .n) (matrixBytes c) (candidateBytes c) (allowanceOf c)) (R .prime) h))))
+
+pub read-sound : {s : List ℕ} {p n a count : ℕ} {m cs : List ℕ} → CaseRead s p n a count m cs → Sound p n (take (n * n) m) × SoundRows p n (take (count * n) cs)
+read-sound R = let w = R .is .well-formed in carried (λ p n m cs a. Sound p n m × SoundRows p n cs) R (case-sound (R .case) w, case-sound-rows (R .case) w)
+
+pub case-file : {s : List ℕ} {p n a count : ℕ} {m cs : List ℕ} {t : Text} → CaseRead s p n a count m cs → CaseText p n (take (n * n) m) (take (count * n) cs) a t → FileText s t
+case-file R T =
+    let c = R .case in
+    let xs = T .lines in
+    let whole = carried (λ p n m cs a. SheetLines p n m cs a xs → SheetLines (c .p) (c .n) (matrixBytes c) (candidateBytes c) (allowanceOf c) xs) R (λ L. L) (T .sheet) in
+    record { bytes = text xs; sheet = sheet c xs (R .is) whole refl; is = T .is; room = T .room }
+
+pub refused-file : {s : List ℕ} {k : ℕ} {t : Text} → ((c : Case) → ¬ IsCase s c) × Place s k → IsText t (text (refusedLine k ∷ [])) → k < 10 ^ 20 → FileText s t
+refused-file {k} N T h = record { bytes = text (refusedLine k ∷ []); sheet = refused k (N .0) (N .1) refl; is = T; room = refused-room k h }
+
+pub room-six : (out : List ℕ) → length out < sheetRoom → first ((6, tooShort sheetRoom out) ∷ []) ≡ some 6
+unfolding first tooShort
+room-six out h = rw (lt-ltb (length out) sheetRoom h)
+
+pub room-none : (out : List ℕ) → sheetRoom ≤ length out → first ((6, tooShort sheetRoom out) ∷ []) ≡ none
+unfolding first
+room-none out h = none-first 6 _ [] (long-tooShort sheetRoom out h) refl

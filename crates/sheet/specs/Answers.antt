@@ -1,0 +1,11 @@
+-- What 01 calls the answers of the call: for each case its number or its value.
+--   sheetedOf   a refusal with its number, or how many bytes the sheet is
+-- Assumes nothing.
+use Prim.Native.Nat.{ℕ}
+use Rattle.meaning.specs.Calls.{Answer, refused, given}
+use Rattle.sheet.specs.declared.Sheeted.{Sheeted}
+use Rattle.sheet.specs.declared.Sheeted.the-variants as sheeted
+
+abbrev pub sheetedOf : Sheeted → Answer ℕ
+sheetedOf (sheeted.Length k) = given k
+sheetedOf (sheeted.Refused k) = refused k
