@@ -1,6 +1,7 @@
 -- What is known of the contents that reading permits.
 --   read-within   of a case that is read, n is at most 64 and there are at most 128 candidates
 --   read-sizes    so its matrix and its candidates fill no more than their arrays
+--   read-steps    what is read is what the steps hand out
 --   read-unique   any two contents that `ReadIs` permits agree, arrays included
 -- Assumes nothing.
 use mathlib.Core.Path.{_≡_, sym, ap, subst, _∙_}
@@ -14,8 +15,10 @@ use Rattle.meaning.specs.Case.{Case, allowanceOf, matrixBytes, candidateBytes}
 use Rattle.casefile.specs.declared.Reading.{Reading}
 use Rattle.casefile.specs.declared.Reading.the-variants as answer
 use Rattle.casefile.specs.declared.Contents.{Contents}
-use Rattle.casefile.specs.Reading.{matrixRoom, candidateRoom, valuesOf, refusalOf, ReadIs}
+use Rattle.casefile.specs.Reading.{matrixRoom, candidateRoom, valuesOf, refusalOf, ReadIs, HandedOut}
 use Rattle.casefile.specs.Reading.ReadIs.{reads, refuses}
+use Rattle.casefile.specs.Reading.HandedOut.{whole, stopped}
+use Rattle.reader.proofs.Steps.{steps-case, steps-refused}
 use Rattle.scan.proofs.Place.{place-unique}
 use Rattle.scan.proofs.Unique.{case-unique}
 
@@ -27,6 +30,10 @@ read-within (refuses j W P v x y) e = absurd (Option·none-ne-some _ (sym (ap re
 
 pub read-sizes : {s : List ℕ} {r : Contents} {p n a k : ℕ} → ReadIs s r → r .answer ≡ answer.Case p n a k → (n * n ≤ matrixRoom) × (k * n ≤ candidateRoom)
 read-sizes R e = let w = read-within R e in (mul-le-mul (w .0) (w .0), mul-le-mul (w .1) (w .0))
+
+pub read-steps : {s : List ℕ} {r : Contents} → ReadIs s r → HandedOut s r
+read-steps (reads c i v x y) = whole c (steps-case i) v x y
+read-steps (refuses k n P v x y) = stopped k (steps-refused n P) v
 
 -- an answer is known by its values, or by its place
 reading-case : (a : Reading) (x : ℕ × ℕ × ℕ × ℕ) → valuesOf a ≡ some x → a ≡ answer.Case (x .0) (x .1) (x .2) (x .3)

@@ -1,7 +1,9 @@
 -- The sheet of a case file (01, "Case file, house layout": what the program `stand` prints).
 --   fieldLine p n       FIELD with p and n
---   standLines n X s r f   for the standing s: STAND with the standing, taken and spent; MINPOLY, or DIVISOR where it is short, with the coefficients
---                       of f up to its leading 1; WITNESS none, or where it is short the index and the n entries of the image
+--   standLine s r       STAND with the standing s, taken and spent
+--   polynomialLine s r f   MINPOLY, or DIVISOR where the standing is short, with the coefficients of f up to its leading 1
+--   witnessLine n X s r f   WITNESS none, or where the standing is short the index and the n entries of the image
+--   standLines n X s r f   these three
 --   stageLine s         STAGE with the coefficients of a stage, its leading 1 included
 --   chainLine n st      CHAIN with the n + 1 coefficients of the product of the stages
 --   periodLine r        PERIOD with t, or none
@@ -31,17 +33,20 @@ use Rattle.meaning.specs.Line.{Line, text}
 abbrev pub fieldLine : ℕ → ℕ → Line
 fieldLine p n = record { word = "FIELD"; numbers = p ∷ n ∷ [] }
 
+abbrev pub standLine : Standing → Outcome → Line
+standLine proved r = record { word = "STAND proved"; numbers = r .taken ∷ r .spent ∷ [] }
+standLine short r = record { word = "STAND short"; numbers = r .taken ∷ r .spent ∷ [] }
+
+abbrev pub polynomialLine : {p : ℕ} → Standing → Outcome → Poly p → Line
+polynomialLine proved r f = record { word = "MINPOLY"; numbers = bytes (suc (r .degree)) (coef f) }
+polynomialLine short r f = record { word = "DIVISOR"; numbers = bytes (suc (r .degree)) (coef f) }
+
+abbrev pub witnessLine : {p : ℕ} → ℕ → (S p → S p) → Standing → Outcome → Poly p → Line
+witnessLine n X proved r f = record { word = "WITNESS none"; numbers = [] }
+witnessLine n X short r f = record { word = "WITNESS"; numbers = r .witness ∷ bytes n (act X f (e (r .witness))) }
+
 abbrev pub standLines : {p : ℕ} → ℕ → (S p → S p) → Standing → Outcome → Poly p → List Line
-standLines n X proved r f =
-    record { word = "STAND proved"; numbers = r .taken ∷ r .spent ∷ [] }
-    ∷ record { word = "MINPOLY"; numbers = bytes (suc (r .degree)) (coef f) }
-    ∷ record { word = "WITNESS none"; numbers = [] }
-    ∷ []
-standLines n X short r f =
-    record { word = "STAND short"; numbers = r .taken ∷ r .spent ∷ [] }
-    ∷ record { word = "DIVISOR"; numbers = bytes (suc (r .degree)) (coef f) }
-    ∷ record { word = "WITNESS"; numbers = r .witness ∷ bytes n (act X f (e (r .witness))) }
-    ∷ []
+standLines n X s r f = standLine s r ∷ polynomialLine s r f ∷ witnessLine n X s r f ∷ []
 
 abbrev pub stageLine : {p : ℕ} → Order p → Line
 stageLine s = record { word = "STAGE"; numbers = bytes (suc (s .deg)) (coef (s .poly)) }
