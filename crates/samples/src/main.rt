@@ -19,6 +19,13 @@ fn load(i: usize, buf: &mut [u8]) -> Input
     let mut name = [0u8; 64];
     let k = os::arg(i, &mut name);
     let fd = os::open_read(&name[..k]);
+    if fd < 0 {
+        os::fail(&name[..k]);
+        return Input {
+            whole: false,
+            count: 0,
+        };
+    }
     let loaded = input::read_all(fd, buf);
     if !loaded.whole {
         os::fail(&name[..k]);
