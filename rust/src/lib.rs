@@ -2,9 +2,12 @@
 #![forbid(unsafe_code)]
 
 pub mod case;
+pub mod families;
 pub mod grammar;
 pub mod lines;
 pub mod naive;
 pub mod numbers;
 pub mod program;
 pub mod sheet;
+pub mod tables;
+pub mod timing;

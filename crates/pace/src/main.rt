@@ -1,97 +1,174 @@
-// What a benchmark times on a machine of 64 rows: two ways to go through its powers, one product per power and the period call, and the stand.
-// Standard input has a letter, the modulus and 64·64 entries, row after row; where it ends there are zeros. After the letter `t` 1,024 powers of M
-// are made, each by 64 products of a row with M, and the last power's first row is printed; after `s` the stand with the first unit row as its
-// candidate is called 256 times, and its polynomial is printed; after any other letter the period is.
-ghost use mathlib.Core.Path.{_≡_};
-ghost use Prim.Native.Nat.{_<_};
-ghost use lib.ListN.{length};
+// What a benchmark times: one call of the library on one machine, made a number of times over. What the last of them gives is printed.
+// Standard input has a letter, p, n, the number of calls (two bytes, the low one first) and the number of rows of a list, then the n·n entries of the
+// machine and those of the list, row after row. The letter says which call is made: `s` the stand with the list, `o` the order of the list's one row,
+// `c` the chain with the list, `t` the period. Of a polynomial all places of the buffer are printed. Without calls the program only reads.
+ghost use Rattle.io.specs.Counts.{Counts};
+use calls::Chained;
+use calls::Ordered;
+use calls::Perioded;
+use calls::Stood;
 use libc::STDIN_FILENO;
-use power::Span;
 
-// A power of M becomes the next one: each of its rows goes one tick on.
-fn multiply(p: u8, m: &[u8], power: &mut [u8])
-    requires { ⌜ 0 < p ⌝ }
-    requires { ⌜ length (now m) ≡ 4096 ⌝ }
-    requires { ⌜ length (now power) ≡ 4096 ⌝ }
-    ensures { λ _. ⌜ length (now (power .exit)) ≡ 4096 ⌝ }
-{
-    let mut i = 0;
-    while i < 64 {
-        let at = i * 64;
-        let next = at + 64;
-        rows::advance(p, m, &mut power[at..next]);
-        i += 1;
-    }
+// The most rows of a machine, and of a list.
+const ROWS: usize = 64;
+
+const LISTED: usize = 128;
+
+const ALLOWANCE: u32 = 8192;
+
+fn refuse(number: u8) {
+    lines::print(b"REFUSED");
+    lines::print_byte(number);
 }
 
-fn show_power(p: u8, m: &[u8])
-    requires { ⌜ 0 < p ⌝ }
-    requires { ⌜ length (now m) ≡ 4096 ⌝ }
-{
-    let mut power = [0u8; 4096];
-    rows::copy(m, &mut power);
-    let mut k = 0u32;
-    while k < 1024 {
-        multiply(p, m, &mut power);
-        k += 1;
+// What stands behind the mark: the witness, or 0, and the degree.
+fn show_stand(witness: usize, degree: usize) {
+    lines::print_number(witness as u64);
+    lines::print_number(degree as u64);
+}
+
+fn stand(last: bool, p: u8, n: u8, m: &[u8], cs: &[u8], poly: &mut [u8], image: &mut [u8]) {
+    let stood = calls::stand(p as u32, n as usize, m, cs, ALLOWANCE, poly, image);
+    if !last {
+        return;
     }
-    lines::print(b"POWER");
-    lines::print_list(&power[..64]);
+    match stood {
+        Stood::Proved(counts) => {
+            lines::print(b"STAND PROVED");
+            show_stand(0, counts.degree);
+        }
+        Stood::Short(counts, witness) => {
+            lines::print(b"STAND SHORT");
+            show_stand(witness, counts.degree);
+        }
+        Stood::Refused(number) => refuse(number),
+    }
+    lines::print_list(poly);
     lines::end_line();
 }
 
-fn show_period(p: u8, m: &[u8])
-    requires { ⌜ 1 < p ⌝ }
-    requires { ⌜ length (now m) ≡ 4096 ⌝ }
-{
-    let found = power::period(p, 64, m);
-    match found {
-        Span::Least(t) => {
+fn order(last: bool, p: u8, n: u8, m: &[u8], v: &[u8], poly: &mut [u8]) {
+    let ordered = calls::order(p as u32, n as usize, m, v, poly);
+    if !last {
+        return;
+    }
+    match ordered {
+        Ordered::Degree(degree) => {
+            lines::print(b"ORDER");
+            lines::print_number(degree as u64);
+        }
+        Ordered::Refused(number) => refuse(number),
+    }
+    lines::print_list(poly);
+    lines::end_line();
+}
+
+fn chain(last: bool, p: u8, n: u8, m: &[u8], cs: &[u8], poly: &mut [u8], stages: &mut [u8]) {
+    let chained = calls::chain(p as u32, n as usize, m, cs, poly, stages);
+    if !last {
+        return;
+    }
+    match chained {
+        Chained::Stages(count) => {
+            lines::print(b"CHAIN");
+            lines::print_number(count as u64);
+        }
+        Chained::Refused(number) => refuse(number),
+    }
+    lines::print_list(poly);
+    lines::end_line();
+}
+
+fn period(last: bool, p: u8, n: u8, m: &[u8]) {
+    let perioded = calls::period(p as u32, n as usize, m);
+    if !last {
+        return;
+    }
+    match perioded {
+        Perioded::Least(t) => {
             lines::print(b"PERIOD");
             lines::print_number(t as u64);
-            lines::end_line();
         }
-        Span::Never => lines::print(b"PERIOD none\n"),
+        Perioded::Never => lines::print(b"PERIOD none"),
+        Perioded::Refused(number) => refuse(number),
     }
-}
-
-fn show_stand(p: u8, m: &[u8])
-    requires { ⌜ length (now m) ≡ 4096 ⌝ }
-{
-    let candidate = rows::unit_row(0);
-    let mut poly = [0u8; 65];
-    let mut image = [0u8; 64];
-    let mut k = 0u32;
-    while k < 256 {
-        calls::stand(p as u32, 64, m, &candidate, 8192, &mut poly, &mut image);
-        k += 1;
-    }
-    lines::print(b"STAND");
-    lines::print_list(&poly);
     lines::end_line();
 }
 
-fn run(letter: u8, p: u8, m: &[u8])
-    requires { ⌜ length (now m) ≡ 4096 ⌝ }
+// One call; the last one's answer is printed. The room is for what a call fills besides a polynomial.
+fn call(
+    letter: u8,
+    last: bool,
+    p: u8,
+    n: u8,
+    m: &[u8],
+    cs: &[u8],
+    poly: &mut [u8],
+    room: &mut [u8],
+) {
+    match letter {
+        b's' => stand(last, p, n, m, cs, poly, room),
+        b'o' => order(last, p, n, m, cs, poly),
+        b'c' => chain(last, p, n, m, cs, poly, room),
+        b't' => period(last, p, n, m),
+        _ => {}
+    }
+}
+
+fn call_all(
+    letter: u8,
+    times: u32,
+    p: u8,
+    n: u8,
+    m: &[u8],
+    cs: &[u8],
+    poly: &mut [u8],
+    room: &mut [u8],
+) {
+    let mut k = 0;
+    while k < times {
+        k += 1;
+        call(letter, k == times, p, n, m, cs, poly, room);
+    }
+}
+
+// The number whose low byte comes first.
+fn two_bytes(low: u8, high: u8) -> u32 {
+    low as u32 + 256 * high as u32
+}
+
+fn product(a: u8, b: u8) -> usize {
+    a as usize * b as usize
+}
+
+// The next bytes of the input, so many where there is room for them and else none, at the front of the buffer.
+fn take(count: usize, buf: &mut [u8]) -> usize
+    ensures { λ r. ⌜ Counts r (now (buf .exit)) ⌝ }
 {
-    if p < 2 {
-        return;
+    if buf.len() < count {
+        return 0;
     }
-    if letter == b't' {
-        show_power(p, m);
-        return;
-    }
-    if letter == b's' {
-        show_stand(p, m);
-        return;
-    }
-    show_period(p, m);
+    io::read_full(STDIN_FILENO, &mut buf[..count])
 }
 
 fn main() {
-    let mut head = [0u8; 2];
+    let mut head = [0u8; 6];
     io::read_full(STDIN_FILENO, &mut head);
-    let mut m = [0u8; 4096];
-    io::read_full(STDIN_FILENO, &mut m);
-    run(head[0], head[1], &m);
+    let n = head[2];
+    let mut m = [0u8; ROWS * ROWS];
+    let entries = take(product(n, n), &mut m);
+    let mut cs = [0u8; LISTED * ROWS];
+    let listed = take(product(head[5], n), &mut cs);
+    let mut poly = [0u8; ROWS + 1];
+    let mut room = [0u8; 2 * ROWS];
+    call_all(
+        head[0],
+        two_bytes(head[3], head[4]),
+        head[1],
+        n,
+        &m[..entries],
+        &cs[..listed],
+        &mut poly,
+        &mut room,
+    );
 }
