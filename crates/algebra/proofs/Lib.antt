@@ -5,6 +5,8 @@ pub mod Poly
 pub mod Gcd
 pub mod Orders
 pub mod Echelon
+pub mod Keeping
 pub mod Spin
+pub mod Stage
 pub mod Chain
 pub mod Final

@@ -76,8 +76,7 @@ pub fn order(p: u32, n: usize, m: &[u8], v: &[u8], out: &mut [u8]) -> Ordered
     if bad != 0 {
         return Ordered::Refused(bad);
     }
-    // 64 slots of 130 bytes
-    let mut kept_rows = [0u8; 8320];
+    let mut kept_rows = [0u8; echelon::ROOM];
     let spun = spin::spin(p as u8, n, m, v, &mut kept_rows, 0);
     let coefficients = spun.poly;
     let count = n + 1;
@@ -116,9 +115,10 @@ pub fn stand(
         return Stood::Refused(bad);
     }
     let field = p as u8;
-    let gathered = taking::take_rows(field, n, m, cs, allowance);
+    let mut kept_rows = [0u8; echelon::ROOM];
+    let gathered = taking::take_rows(field, n, m, cs, allowance, &mut kept_rows);
     let f = gathered.poly;
-    let witness = taking::witness(field, n, m, f);
+    let witness = taking::witness(field, n, m, f, &mut kept_rows, gathered.known);
     let row = taking::witness_row(field, n, m, f, witness);
     let coefficients = f.c;
     let places = n + 1;

@@ -1,5 +1,8 @@
-pub mod Kept
 pub mod Lead
-pub mod Loops
-pub mod Slots
+pub mod Sums
+pub mod Clearing
+pub mod Relating
+pub mod Laid
+pub mod Put
+pub mod Places
 pub mod Again

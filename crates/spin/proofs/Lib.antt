@@ -1,3 +1,4 @@
-pub mod Long
+pub mod Opposite
 pub mod Held
+pub mod Finished
 pub mod Laws

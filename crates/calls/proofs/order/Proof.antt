@@ -42,7 +42,7 @@ spin-requires c κs =
     let x = start (c .before) .args in
     let S = order-sound _ _ _ _ _ (taken (c .before)) in
     let most : x .n ≤ 64 = S .0 .size in
-    (S .0 .prime, (most, (S .0 .matrix, (S .1, before-empty (x .p) (x .n) (x .m .now) (replicate 8320 0) (omega arith)))))
+    (S .0 .prime, (most, (S .0 .matrix, (S .1, before-empty (x .p) (x .n) (x .m .now) (replicate 12480 0) (omega arith)))))
 
 -- the coefficients and the buffer have n + 1 places
 room : (c : tie.After-spin) → let x = start (c .before .before) .args in

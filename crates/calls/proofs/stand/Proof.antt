@@ -45,17 +45,28 @@ returns c = refused-by (some-number _ (c .before .of-stand .ensures) (c .if1 .ta
 cast-field : tie.Need-cast-field
 cast-field c = omega (arith, stand-sound _ _ _ _ _ _ (taken c))
 
+-- the refusal that was none, from the rows taken, and these from the witness
+abbrev passed-on : tie.After-take-rows → tie.Else1
+passed-on c = c .before .before
+
+abbrev gathered : tie.After-witness → tie.After-take-rows
+gathered c = c .before .before .before .before
+
+slice-aggregate-take-rows : tie.Need-slice-aggregate-take-rows
+slice-aggregate-take-rows c = search needs
+
 take-rows-requires : tie.Need-take-rows-requires
 take-rows-requires c κs =
-    let S = stand-sound _ _ _ _ _ _ (taken c) in
-    (S .0 .prime, ((S .0 .some-size, S .0 .size), (S .0 .matrix, S .1 .whole)))
+    let S = stand-sound _ _ _ _ _ _ (taken (c .before)) in
+    let most = S .0 .size in
+    (S .0 .prime, ((S .0 .some-size, most), (S .0 .matrix, (S .1 .whole, omega arith))))
 
 -- F is the least polynomial that sends the taken rows to zero
-killing : (c : tie.After-take-rows) → let x = start (c .before) .args in Killing (x .p) (x .n) (x .m .now) (c .take-rows .result .poly)
+killing : (c : tie.After-take-rows) → let x = start (passed-on c) .args in Killing (x .p) (x .n) (x .m .now) (c .take-rows .result .poly)
 killing c =
-    let x = start (c .before) .args in
+    let x = start (passed-on c) .args in
     let t = c .take-rows .result .taken in
-    let G = c .take-rows .ensures in
+    let G = c .take-rows .ensures .0 in
     record {
       good = G .good;
       killed = take t (rows (x .p) (x .n) (x .cs .now));
@@ -63,29 +74,35 @@ killing c =
       least = G .least;
     }
 
+slice-aggregate-witness : tie.Need-slice-aggregate-witness
+slice-aggregate-witness c = search needs
+
 witness-requires : tie.Need-witness-requires
 witness-requires c κs =
-    let S = stand-sound _ _ _ _ _ _ (taken (c .before .before)) in
-    (S .0 .prime, ((S .0 .some-size, S .0 .size), (S .0 .matrix, killing (c .before))))
+    let T = c .before .before .before in
+    let S = stand-sound _ _ _ _ _ _ (taken (passed-on T)) in
+    (S .0 .prime, ((S .0 .some-size, S .0 .size), (S .0 .matrix, (killing T, T .take-rows .ensures .1))))
 
 witness-row-requires : tie.Need-witness-row-requires
 witness-row-requires c κs =
-    let S = stand-sound _ _ _ _ _ _ (taken (c .before .before .before)) in
-    let x = start (c .before .before .before) .args in
-    let f = c .before .before .take-rows .result .poly in
-    let w = c .witness .result in
-    let h : w ≤ x .n = tested-within (times (x .p) (x .n) (x .m .now)) (x .n) (po (x .p) f) w (c .witness .ensures) in
-    (S .0 .prime, (S .0 .size, (S .0 .matrix, (c .before .before .take-rows .ensures .good, omega arith))))
+    let W = c .before in
+    let T = gathered W in
+    let S = stand-sound _ _ _ _ _ _ (taken (passed-on T)) in
+    let x = start (passed-on T) .args in
+    let h : W .witness .result ≤ x .n =
+    tested-within (times (x .p) (x .n) (x .m .now)) (x .n) (po (x .p) (T .take-rows .result .poly)) (W .witness .result) (W .witness .ensures) in
+    (S .0 .prime, (S .0 .size, (S .0 .matrix, (T .take-rows .ensures .0 .good, omega arith))))
 
 -- the coefficients, the image and the buffers have their places
-room : (c : tie.After-witness-row) → let x = start (c .before .before .before .before) .args in
-    (x .n + 1 ≤ 65) × (x .n + 1 ≤ length (c .before .before .before .take-rows .result .poly .c)) × (x .n + 1 ≤ length (x .poly .now))
+room : (c : tie.After-witness-row) → let T = gathered (c .before .before) in let x = start (passed-on T) .args in
+    (x .n + 1 ≤ 65) × (x .n + 1 ≤ length (T .take-rows .result .poly .c)) × (x .n + 1 ≤ length (x .poly .now))
     × (x .n ≤ length (c .witness-row .result)) × (x .n ≤ length (x .image .now))
 room c =
-    let S = stand-sound _ _ _ _ _ _ (taken (c .before .before .before .before)) in
+    let T = gathered (c .before .before) in
+    let S = stand-sound _ _ _ _ _ _ (taken (passed-on T)) in
     let most = S .0 .size in
     let long : length (c .witness-row .result) ≡ 64 = search needs in
-    (omega arith, omega (arith, c .before .before .before .take-rows .ensures .good .places), S .2, omega arith, S .3)
+    (omega arith, omega (arith, T .take-rows .ensures .0 .good .places), S .2, omega arith, S .3)
 
 add-places : tie.Need-add-places
 add-places c = omega (arith, room (c .before))
@@ -114,19 +131,22 @@ same-length-3 c = search needs
 same-length-4 : tie.Need-same-length-4
 same-length-4 c = search needs
 
+-- the witness, from the second buffer written
+abbrev witnessed : tie.After-put2 → tie.After-witness
+witnessed c = c .before .before .before .before .before .before .before .before .before .before .before
+
 -- the refusal is none once both buffers are written
 passed : (c : tie.After-put2) →
-    let E = c .before .before .before .before .before .before .before .before .before .before .before .before .before in
-    let x = start E .args in
+    let x = start (passed-on (gathered (witnessed c))) .args in
     standRefusal (x .p) (x .n) (x .m .now) (x .cs .now) (x .poly .now) (x .image .now) ≡ none
-passed c = taken (c .before .before .before .before .before .before .before .before .before .before .before .before .before)
+passed c = taken (passed-on (gathered (witnessed c)))
 
 -- what is given, with the standing and the witness as the answer names them
 written : (c : tie.After-put2) (s : Standing) (w : ℕ) →
     let Q = c .before .before .before .before .before in
-    let W = Q .before .before .before .before .before in
-    let T = W .before .before in
-    let x = start (T .before) .args in
+    let W = witnessed c in
+    let T = gathered W in
+    let x = start (passed-on T) .args in
     let g = T .take-rows .result in
     standingOf (W .witness .result) ≡ s → W .witness .result ≡ w
     → StandResult (x .p) (x .n) (x .m .now) (x .cs .now) (x .allowance) (x .poly .now, x .image .now)
@@ -134,10 +154,10 @@ written : (c : tie.After-put2) (s : Standing) (w : ℕ) →
 written c s w e k =
     let Q = c .before .before .before .before .before in
     let R = Q .before .before .before .before in
-    let W = R .before in
-    let T = W .before .before in
-    let x = start (T .before) .args in
-    let G = T .take-rows .ensures in
+    let W = witnessed c in
+    let T = gathered W in
+    let x = start (passed-on T) .args in
+    let G = T .take-rows .ensures .0 in
     stand-written
     (x .p)
     (x .n)
@@ -186,7 +206,9 @@ stand-spec =
     same-length-2
     returns
     cast-field
+    slice-aggregate-take-rows
     take-rows-requires
+    slice-aggregate-witness
     witness-requires
     witness-row-requires
     add-places

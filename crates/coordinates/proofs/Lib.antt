@@ -1,0 +1,4 @@
+pub mod Ticks
+pub mod Parts
+pub mod Along
+pub mod Sums

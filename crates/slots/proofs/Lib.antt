@@ -1,0 +1,4 @@
+pub mod Part
+pub mod Kept
+pub mod Alike
+pub mod Tick
