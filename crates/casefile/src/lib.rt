@@ -7,6 +7,7 @@ ghost use Rattle.casefile.specs.Gathered.{Noting, Noted};
 ghost use Rattle.casefile.specs.Reading.{ReadIs};
 use reader::Step;
 use reader::Stepped;
+use scan::State;
 
 // Bytes enough for the matrix of any case.
 const MATRIX_ROOM: usize = 64 * 64;
@@ -109,7 +110,7 @@ fn note(s: &[u8], r: Stepped, known: Numbers, m: &mut [u8], cs: &mut [u8]) -> Nu
     }
 }
 
-// A whole file taken to its values, a step at a time.
+// A whole file taken to its values, a step at a time. Each step goes on from the state that the one before it reached.
 pub fn read(s: &[u8]) -> Contents
     ensures { λ r. ⌜ ReadIs (now (s .entry)) r ⌝ }
 {
@@ -123,8 +124,10 @@ pub fn read(s: &[u8]) -> Contents
         count: 0,
     };
     let mut at = reader::front();
+    let mut state = State::Start;
     loop {
-        let stepped = reader::step_from(s, at);
+        let on = reader::step_on(s, state, at);
+        let stepped = on.stepped;
         let step = stepped.step;
         match step {
             Step::Over => {
@@ -150,6 +153,7 @@ pub fn read(s: &[u8]) -> Contents
                 let more = note(s, stepped, known, &mut matrix, &mut candidates);
                 known = more;
                 at = stepped.next;
+                state = on.state;
             }
         }
     }
