@@ -160,7 +160,8 @@ fn stay(step: Step, at: usize, q: State) -> On
     }
 }
 
-// A step from a state that the scan has reached at the place. It goes over the bytes of its record alone, so that steps one after another go over a case once.
+// A step from a state that the scan has reached at the place. No byte in front of the place is scanned, so steps one after another, each from the state
+// that the one before it handed on, go over a case once.
 pub fn step_on(s: &[u8], q: State, c: Cursor) -> On
     requires { ⌜ Scans (now s) (c .at) q ⌝ }
     ensures { λ r. ⌜ StepIs (now (s .entry)) (c .at) (r .stepped) × Scans (now (s .entry)) (r .stepped .next .at) (r .state) ⌝ }
