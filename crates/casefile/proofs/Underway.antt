@@ -3,7 +3,6 @@
 --   handing                the tags of the steps that hand out a record
 --   step-less              such a step leaves fewer bytes
 --   underway-start         at the front nothing is held
---   front-scans            and the scan has its first state
 --   underway-noting        a record that is handed out can be noted
 --   underway-turn          behind it the records handed out are one more
 --   underway-over, underway-refused   the answer where the case is over, and where a step is refused
@@ -19,9 +18,6 @@ use types.Run.{OneOf, miss}
 use denote.Enum.Declared.{tagOf}
 use Rattle.meaning.specs.Bytes.{padded}
 use Rattle.meaning.specs.Case.{Record, recordBytes, Case, defaultAllowance}
-use Rattle.scan.specs.declared.State.the-variants.{Start}
-use Rattle.scan.specs.Machine.{Scans}
-use Rattle.scan.proofs.Place.{scans-start}
 use Rattle.reader.specs.declared.Step.{Step}
 use Rattle.reader.specs.declared.Step.the-variants as step
 use Rattle.reader.specs.declared.Stepped.{Stepped}
@@ -59,9 +55,6 @@ underway-start s e = record {
   matrix-size = length-replicate {A = ℕ} matrixRoom 0;
   candidate-size = length-replicate {A = ℕ} candidateRoom 0;
 }
-
-pub front-scans : (s : List ℕ) {at : ℕ} → at ≡ 0 → Scans s at Start
-front-scans s e = subst (λ i. Scans s i Start) (sym e) (scans-start s)
 
 -- which steps hand out a record
 abbrev pub handing : List ℕ

@@ -7,7 +7,6 @@ ghost use Rattle.casefile.specs.Gathered.{Noting, Noted};
 ghost use Rattle.casefile.specs.Reading.{ReadIs};
 use reader::Step;
 use reader::Stepped;
-use scan::State;
 
 // Bytes enough for the matrix of any case.
 const MATRIX_ROOM: usize = 64 * 64;
@@ -110,7 +109,7 @@ fn note(s: &[u8], r: Stepped, known: Numbers, m: &mut [u8], cs: &mut [u8]) -> Nu
     }
 }
 
-// A whole file taken to its values, a step at a time. Each step goes on from the state that the one before it reached.
+// A whole file taken to its values, a step at a time.
 pub fn read(s: &[u8]) -> Contents
     ensures { λ r. ⌜ ReadIs (now (s .entry)) r ⌝ }
 {
@@ -124,10 +123,8 @@ pub fn read(s: &[u8]) -> Contents
         count: 0,
     };
     let mut at = reader::front();
-    let mut state = State::Start;
     loop {
-        let on = reader::step_on(s, state, at);
-        let stepped = on.stepped;
+        let stepped = reader::step_from(s, at);
         let step = stepped.step;
         match step {
             Step::Over => {
@@ -153,7 +150,6 @@ pub fn read(s: &[u8]) -> Contents
                 let more = note(s, stepped, known, &mut matrix, &mut candidates);
                 known = more;
                 at = stepped.next;
-                state = on.state;
             }
         }
     }

@@ -5,7 +5,6 @@
 --   next-peeked      it is what the state and the bytes say
 --   next-same, next-ended   there is one next record, and none at the end
 --   step-hands, step-over, step-early, step-cut, step-stops, step-nothing   each answer of the code is one that `StepIs` permits
---   on-goes, on-stays   a step that goes on from a state: what it answers, and the state at the place for the next one
 --   step-refused     a step that says a number says where
 --   some-same, none-some   what may be missing, and is not
 --   step-unique      any two answers that `StepIs` permits agree
@@ -31,7 +30,6 @@ use Rattle.scan.proofs.Place.{over-case, case-over, viable-begins, place-past, 
 use Rattle.reader.specs.declared.Step.{Step}
 use Rattle.reader.specs.declared.Step.the-variants as step
 use Rattle.reader.specs.declared.Stepped.{Stepped}
-use Rattle.reader.specs.declared.On.{On}
 use Rattle.reader.specs.declared.Ahead.{Ahead}
 use Rattle.reader.specs.declared.Ahead.the-variants as ahead
 use Rattle.reader.specs.Step.{recordWith, recordOf, refusalOf, NextRecord, Ended, StepIs, steppedTo}
@@ -179,15 +177,6 @@ pub step-nothing : {s : List ℕ} {at k : ℕ} {q : State} {a : Ahead} → Scans
     → Place s k → StepIs s at (steppedTo (step.Refused k) at at)
 step-nothing {k = k} R f h i P =
     refuses k (λ y N. nothing-record (sym i ∙ h ∙ next-peeked N (R .comes) .ahead)) (λ E. f (E .length-of)) P refl refl refl
-
--- the state at the place for the next step
-pub on-goes : {s : List ℕ} {at next : ℕ} {q : State} {x : Step} {r : Stepped} → r ≡ steppedTo x at next → Scans s next q → StepIs s at (steppedTo x at next)
-    → StepIs s at r × Scans s (r .next .at) q
-on-goes {s} {at} {q = q} e R S = subst (λ y. StepIs s at y × Scans s (y .next .at) q) (sym e) (S, R)
-
-pub on-stays : {s : List ℕ} {at : ℕ} {q : State} {x : Step} {r : On} → (r .stepped ≡ steppedTo x at at) × (r .state ≡ q) → Scans s at q
-    → StepIs s at (steppedTo x at at) → StepIs s at (r .stepped) × Scans s (r .stepped .next .at) (r .state)
-on-stays {s} {at} e R S = on-goes (e .0) (subst (Scans s at) (sym (e .1)) R) S
 
 -- any two answers agree
 abbrev stepOf : Record → Step

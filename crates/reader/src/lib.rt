@@ -40,12 +40,6 @@ pub struct Stepped {
     pub next: Cursor,
 }
 
-// A step, and the state that the scan reaches at the place for the next one.
-pub struct On {
-    pub stepped: Stepped,
-    pub state: State,
-}
-
 // What begins at an offset, by its letter, and the offset behind it; or nothing.
 enum Ahead {
     Record { step: Step, next: usize },
@@ -150,48 +144,8 @@ fn said(step: Step, from: usize, next: usize) -> Stepped
     }
 }
 
-// A step that hands out no record: the place stays, and so does the state there.
-fn stay(step: Step, at: usize, q: State) -> On
-    ensures { λ r. ⌜ (r .stepped ≡ steppedTo step at at) × (r .state ≡ q) ⌝ }
-{
-    On {
-        stepped: said(step, at, at),
-        state: q,
-    }
-}
-
-// A step from a state that the scan has reached at the place. No byte in front of the place is scanned, so steps one after another, each from the state
-// that the one before it handed on, go over a case once.
-pub fn step_on(s: &[u8], q: State, c: Cursor) -> On
-    requires { ⌜ Scans (now s) (c .at) q ⌝ }
-    ensures { λ r. ⌜ StepIs (now (s .entry)) (c .at) (r .stepped) × Scans (now (s .entry)) (r .stepped .next .at) (r .state) ⌝ }
-{
-    let at = c.at;
-    if at == s.len() {
-        let State::Over(_) = q else {
-            return stay(Step::Refused(at), at, q);
-        };
-        return stay(Step::Over, at, q);
-    }
-    match peek(s, at, q) {
-        Ahead::Record { step, next } => {
-            let there = scan(s, q, at, next);
-            let end = there.at;
-            if end < next {
-                return stay(Step::Refused(end), at, q);
-            }
-            let state = there.state;
-            On {
-                stepped: said(step, at, next),
-                state,
-            }
-        }
-        Ahead::Nothing => stay(Step::Refused(place(s, at, q)), at, q),
-    }
-}
-
-// The step at any offset; where no run of steps leads to the offset it is refused, with the place of s. The state at the offset is not known, so the bytes in
-// front of it are scanned first: such a step takes time in proportion to the offset behind its record.
+// The step at any offset; where no run of steps leads to the offset it is refused, with the place of s. The state at an offset is not kept, so the bytes in
+// front of it are scanned again: a step takes time in proportion to the offset behind its record.
 fn step_at(s: &[u8], at: usize) -> Stepped
     ensures { λ r. ⌜ StepIs (now (s .entry)) at r ⌝ }
 {
@@ -201,8 +155,23 @@ fn step_at(s: &[u8], at: usize) -> Stepped
         return said(Step::Refused(reached), at, at);
     }
     let q = here.state;
-    let on = step_on(s, q, Cursor { at });
-    on.stepped
+    if at == s.len() {
+        let State::Over(_) = q else {
+            return said(Step::Refused(at), at, at);
+        };
+        return said(Step::Over, at, at);
+    }
+    match peek(s, at, q) {
+        Ahead::Record { step, next } => {
+            let there = scan(s, q, at, next);
+            let end = there.at;
+            if end < next {
+                return said(Step::Refused(end), at, at);
+            }
+            said(step, at, next)
+        }
+        Ahead::Nothing => said(Step::Refused(place(s, at, q)), at, at),
+    }
 }
 
 // The bytes behind a mark at `at`, up to `end`, as far as there are any.

@@ -1,10 +1,13 @@
--- `reader::step_at` meets its contract. The scan gives the place in front of the offset, or the state there, from which `step_on` goes on.
+-- `reader::step_at` meets its contract. The first scan gives the state at the offset, or the place in front of it; the second goes over the record that begins
+-- there, or stops at the place; where none begins, a scan of the rest finds the place.
 -- Assumes nothing.
 use mathlib.Core.Path.{sym, subst}
 use borrow.Author.Needs.{needs}
 use Rattle.scan.proofs.Place.{scans-start, scan-to}
+use Rattle.scan.proofs.Tags.{tag-not-over}
 use Rattle.reader.specs.Step.{StepIs}
-use Rattle.reader.proofs.Stepping.{step-early}
+use Rattle.reader.proofs.Look.{peek-far}
+use Rattle.reader.proofs.Stepping.{step-hands, step-over, step-early, step-cut, step-stops, step-nothing}
 use Rattle.reader.proofs.step_at.Statement.{statement}
 use Rattle.reader.proofs.step_at.Tie as tie
 
@@ -17,11 +20,74 @@ said-requires c κs = search needs
 returns : tie.Need-returns
 returns c = subst (StepIs _ _) (sym (c .said .ensures)) (step-early (c .before .before .scan .ensures .stop (c .before .if1 .taken)) (c .before .if1 .taken))
 
-step-on-requires : tie.Need-step-on-requires
-step-on-requires c κs = scan-to (c .before .scan .ensures) (c .if1 .left)
+enum-told : tie.Need-enum-told
+enum-told c = search needs
+
+said-requires-2 : tie.Need-said-requires-2
+said-requires-2 c κs = search needs
 
 returns-2 : tie.Need-returns-2
-returns-2 c = c .before .step-on .ensures .0
+returns-2 c = subst (StepIs _ _) (sym (c .said2 .ensures)) (step-cut (scan-to (c .before .before .before .before .scan .ensures) (c .before .before .before .if1 .left)) (c .before .before .if2 .taken) (tag-not-over _ (c .before .match .keys2)))
+
+said-requires-3 : tie.Need-said-requires-3
+said-requires-3 c κs = search needs
+
+returns-3 : tie.Need-returns-3
+returns-3 c = subst (StepIs _ _) (sym (c .said3 .ensures)) (step-over (scan-to (c .before .before .before .before .before .scan .ensures) (c .before .before .before .before .if1 .left)) (c .before .enum-told .given .1) (c .before .before .before .if2 .taken))
+
+peek-requires : tie.Need-peek-requires
+peek-requires c κs = search needs
+
+enum-known-step : tie.Need-enum-known-step
+enum-known-step c = search needs
+
+scan-requires-2 : tie.Need-scan-requires-2
+scan-requires-2 c κs = (scan-to (c .before .before .before .before .before .before .scan .ensures) (c .before .before .before .before .before .if1 .left), peek-far _ _ (c .before .before .before .peek .ensures) (c .before .step .given .1))
+
+said-requires-4 : tie.Need-said-requires-4
+said-requires-4 c κs = search needs
+
+returns-4 : tie.Need-returns-4
+returns-4 c = subst (StepIs _ _) (sym (c .said4 .ensures)) (step-stops (scan-to (c .before .before .before .before .before .before .before .before .before .scan .ensures) (c .before .before .before .before .before .before .before .before .if1 .left)) (c .before .before .before .before .before .before .before .if2 .left) (c .before .before .before .before .before .before .peek .ensures) (c .before .before .before .before .step .given .1) (c .before .before .scan2 .ensures .stop (c .before .if3 .taken)) (c .before .if3 .taken))
+
+said-requires-5 : tie.Need-said-requires-5
+said-requires-5 c κs = search needs
+
+enum-told-2 : tie.Need-enum-told-2
+enum-told-2 c = search needs
+
+place-requires : tie.Need-place-requires
+place-requires c κs = scan-to (c .before .before .before .before .before .scan .ensures) (c .before .before .before .before .if1 .left)
+
+said-requires-6 : tie.Need-said-requires-6
+said-requires-6 c κs = search needs
+
+returns-5 : tie.Need-returns-5
+returns-5 c = subst (StepIs _ _) (sym (c .said5 .ensures)) (step-hands (scan-to (c .before .before .before .before .before .before .before .before .before .scan .ensures) (c .before .before .before .before .before .before .before .before .if1 .left)) (c .before .before .before .before .before .before .peek .ensures) (c .before .before .before .before .step .given .1) (scan-to (c .before .before .scan2 .ensures) (c .before .if3 .left)))
+
+returns-6 : tie.Need-returns-6
+returns-6 c = subst (StepIs _ _) (sym (c .said6 .ensures)) (step-nothing (scan-to (c .before .before .before .before .before .before .before .scan .ensures) (c .before .before .before .before .before .before .if1 .left)) (c .before .before .before .before .before .if2 .left) (c .before .before .before .before .peek .ensures) (c .before .before .enum-told2 .given .1) (c .before .place .ensures))
 
 pub step-at-spec : {M : Type 1} → statement M
-step-at-spec = tie.close (tie.spec scan-requires said-requires returns step-on-requires returns-2)
+step-at-spec =
+    tie.close
+    (tie.spec
+    scan-requires
+    said-requires
+    returns
+    enum-told
+    said-requires-2
+    returns-2
+    said-requires-3
+    returns-3
+    peek-requires
+    enum-known-step
+    scan-requires-2
+    said-requires-4
+    returns-4
+    said-requires-5
+    enum-told-2
+    place-requires
+    said-requires-6
+    returns-5
+    returns-6)
