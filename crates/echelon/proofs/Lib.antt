@@ -5,4 +5,4 @@ pub mod Relating
 pub mod Laid
 pub mod Put
 pub mod Places
-pub mod Again
+pub mod Lending
