@@ -1,5 +1,5 @@
-/* What `pace` does after the letter `s`, by FLINT: the minimal polynomial of a matrix modulo p, a number of times, and its degree and coefficients.
-   Standard input is that of `pace`; the list is not read. The allocator is to keep what it has: else it asks the system for memory and gives it
+/* What `trial_pace` does after the letter `s`, by FLINT: the minimal polynomial of a matrix modulo p, a number of times, and its degree and coefficients.
+   Standard input is that of `trial_pace`; the list is not read. The allocator is to keep what it has: else it asks the system for memory and gives it
    back at every call, and FLINT looks three times slower than it is.
 
        cc -O2 -o flint rust/beside/flint.c -lflint */

@@ -15,6 +15,14 @@ const KINDS: [(Kind, &str); 2] = [
     (Kind::First, "the first unit row alone"),
 ];
 
+/// The same in a word, for tables that would else be wider than a screen.
+fn short(kind: Kind) -> &'static str {
+    match kind {
+        Kind::Users => "user's",
+        Kind::First => "first",
+    }
+}
+
 /// The size of the tables with a column for each modulus and basis.
 const SHOWN: usize = 64;
 
@@ -129,11 +137,11 @@ fn by_machine(lines: &[Line], cell: impl Fn(&Line) -> String, worst: Option<Kind
 
 /// Each family's mean ratio at each size.
 fn growth(lines: &[Line]) {
-    section("By size: geometric means of the ratios over moduli and bases");
+    section("By list and size n: geometric means of the ratios over moduli and bases");
     let sizes = different(lines.iter().map(|line| line.n));
     let mut heads = vec!["family".to_string()];
-    for (_, list) in KINDS {
-        heads.extend(sizes.iter().map(|n| format!("{list}, n = {n}")));
+    for (kind, _) in KINDS {
+        heads.extend(sizes.iter().map(|n| format!("{}, {n}", short(kind))));
     }
     let mut rows = vec![];
     for name in different(lines.iter().map(|line| line.name)) {
@@ -156,21 +164,21 @@ fn growth(lines: &[Line]) {
 
 /// Mean and worst for each size and kind of list.
 fn summary(lines: &[Line]) {
-    section("In short: geometric means over all machines, and the worst");
+    section("In short: geometric means over all machines, the worst, and how many are slower than FLINT");
     let heads = [
         "n",
         "list",
         "machines",
         "ratio",
         "worst",
-        "of",
-        "slower than FLINT",
+        "family, p, basis",
+        "slower",
         "ours, µs",
         "FLINT, µs",
     ];
     let mut rows = vec![];
     for n in different(lines.iter().map(|line| line.n)) {
-        for (kind, list) in KINDS {
+        for (kind, _) in KINDS {
             let of: Vec<(&Line, &Outcome)> = lines
                 .iter()
                 .filter(|line| line.n == n)
@@ -185,11 +193,11 @@ fn summary(lines: &[Line]) {
             let slower = of.iter().filter(|(_, x)| 1.0 < x.ratio).count();
             rows.push(vec![
                 n.to_string(),
-                list.to_string(),
+                short(kind).to_string(),
                 of.len().to_string(),
                 format!("{:.3}", mean(|x| x.ratio)),
                 format!("{:.2}", worst.ratio),
-                format!("{}, p = {}, {} basis", line.name, line.p, line.basis),
+                format!("{}, {}, {}", line.name, line.p, line.basis),
                 slower.to_string(),
                 format!("{:.1}", mean(|x| x.micros)),
                 format!("{:.1}", mean(|x| x.theirs)),

@@ -1,6 +1,8 @@
 -- The paper's lemmas 4.3 and 4.12.
---   Same W u v      u and v are equal modulo W
---   Induces W X Y   Y induces on the classes modulo W what X does
+--   order-by-relative   4.12: with q the relative order of v over W, the order of v is q times the order of v·q(M)
+--   Same W u v          u and v are equal modulo W
+--   Induces W X Y       Y induces on the classes modulo W what X does
+--   relative-order      4.3: the order of the class of v under what is induced is the relative order of v over W
 -- Assumes nothing.
 use mathlib.Core.Path.{_≡_, refl, sym, _∙_, subst, fun-ext}
 use mathlib.Core.List.{[], _∷_}

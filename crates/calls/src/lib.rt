@@ -6,7 +6,7 @@ ghost use lib.ListN.{length};
 ghost use Rattle.meaning.specs.Bytes.{write};
 ghost use Rattle.meaning.specs.Calls.{InverseCall, OrderCall, ImageCall, StandCall, ChainCall, PeriodCall};
 ghost use Rattle.calls.specs.Answers.{invertedOf, orderedOf, imagedOf, stoodOf, chainedOf, periodedOf};
-use power::Span;
+use period::Returns;
 
 pub enum Inverted {
     Inverse(u8),
@@ -76,12 +76,12 @@ pub fn order(p: u32, n: usize, m: &[u8], v: &[u8], out: &mut [u8]) -> Ordered
     if bad != 0 {
         return Ordered::Refused(bad);
     }
-    let mut kept_rows = [0u8; echelon::ROOM];
-    let spun = spin::spin(p as u8, n, m, v, &mut kept_rows, 0);
-    let coefficients = spun.poly;
+    let mut kept_rows = [0u8; slots::KEPT_ROOM];
+    let f = spin::spin(p as u8, n, m, v, &mut kept_rows, 0);
+    let coefficients = f.c;
     let count = n + 1;
     put(&coefficients[..count], out);
-    Ordered::Degree(spun.deg)
+    Ordered::Degree(f.deg)
 }
 
 // v·f(M), its n entries at the front of `out`.
@@ -92,7 +92,7 @@ pub fn image(p: u32, n: usize, m: &[u8], v: &[u8], f: &[u8], out: &mut [u8]) -> 
     if bad != 0 {
         return Imaged::Refused(bad);
     }
-    rows::image(p as u8, m, f, v, &mut out[..n]);
+    matrix::image(p as u8, m, f, v, &mut out[..n]);
     Imaged::Written
 }
 
@@ -115,11 +115,11 @@ pub fn stand(
         return Stood::Refused(bad);
     }
     let field = p as u8;
-    let mut kept_rows = [0u8; echelon::ROOM];
-    let gathered = taking::take_rows(field, n, m, cs, allowance, &mut kept_rows);
+    let mut kept_rows = [0u8; slots::KEPT_ROOM];
+    let gathered = taken::take_rows(field, n, m, cs, allowance, &mut kept_rows);
     let f = gathered.poly;
-    let witness = taking::witness(field, n, m, f, &mut kept_rows, gathered.known);
-    let row = taking::witness_row(field, n, m, f, witness);
+    let witness = witness::witness(field, n, m, f, &mut kept_rows, gathered.known);
+    let row = witness::witness_row(field, n, m, f, witness);
     let coefficients = f.c;
     let places = n + 1;
     put(&coefficients[..places], poly);
@@ -151,7 +151,7 @@ pub fn chain(
     if bad != 0 {
         return Chained::Refused(bad);
     }
-    let links = linking::link(p as u8, n, m, cs);
+    let links = stages::link(p as u8, n, m, cs);
     let f = links.product;
     let coefficients = f.c;
     let record = links.record;
@@ -170,8 +170,8 @@ pub fn period(p: u32, n: usize, m: &[u8]) -> Perioded
     if bad != 0 {
         return Perioded::Refused(bad);
     }
-    match power::period(p as u8, n, m) {
-        Span::Least(t) => Perioded::Least(t),
-        Span::Never => Perioded::Never,
+    match period::period(p as u8, n, m) {
+        Returns::Least(t) => Perioded::Least(t),
+        Returns::Never => Perioded::Never,
     }
 }

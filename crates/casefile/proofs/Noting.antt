@@ -3,6 +3,7 @@
 --   copied-start, copied-turn, copied-end   the loop that copies
 --   Fitting k most room l   k rows come before l, fewer than `most`, and l fits behind them
 --   row-fitting, candidate-fitting   so do the entries of a record that can be noted
+--   noEntries               the tags of the steps End, Over and Refused
 --   noted-field, noted-allow, noted-row, noted-candidate, noted-rest   what is held with one more record, by the step
 -- Assumes nothing.
 use mathlib.Core.Path.{_≡_, refl, sym, ap, ap₂, subst, _∙_}

@@ -15,7 +15,7 @@ use Rattle.meaning.specs.Case.{Case, allowanceOf, matrixBytes, candidateBytes}
 use Rattle.casefile.specs.declared.Reading.{Reading}
 use Rattle.casefile.specs.declared.Reading.the-variants as answer
 use Rattle.casefile.specs.declared.Contents.{Contents}
-use Rattle.casefile.specs.Reading.{matrixRoom, candidateRoom, valuesOf, refusalOf, ReadIs, HandedOut}
+use Rattle.casefile.specs.Reading.{matrixRoom, candidateRoom, valuesOf, readRefusal, ReadIs, HandedOut}
 use Rattle.casefile.specs.Reading.ReadIs.{reads, refuses}
 use Rattle.casefile.specs.Reading.HandedOut.{whole, stopped}
 use Rattle.reader.proofs.Steps.{steps-case, steps-refused}
@@ -26,7 +26,7 @@ pub read-within : {s : List ℕ} {r : Contents} {p n a k : ℕ} → ReadIs s r �
 read-within (reads c W v x y) e =
     let q = Option·some-injective _ _ (sym v ∙ ap valuesOf e) in
     (subst (λ i. i ≤ 64) (ap (λ t. t .1) q) (W .well-formed .most), subst (λ i. i ≤ 128) (ap (λ t. t .3) q) (W .well-formed .few))
-read-within (refuses j W P v x y) e = absurd (Option·none-ne-some _ (sym (ap refusalOf e) ∙ v))
+read-within (refuses j W P v x y) e = absurd (Option·none-ne-some _ (sym (ap readRefusal e) ∙ v))
 
 pub read-sizes : {s : List ℕ} {r : Contents} {p n a k : ℕ} → ReadIs s r → r .answer ≡ answer.Case p n a k → (n * n ≤ matrixRoom) × (k * n ≤ candidateRoom)
 read-sizes R e = let w = read-within R e in (mul-le-mul (w .0) (w .0), mul-le-mul (w .1) (w .0))
@@ -40,7 +40,7 @@ reading-case : (a : Reading) (x : ℕ × ℕ × ℕ × ℕ) → valuesOf a ≡ s
 reading-case (answer.Case p n allowance count) x e = ap (λ t. answer.Case (t .0) (t .1) (t .2) (t .3)) (Option·some-injective _ _ e)
 reading-case (answer.Refused k) x e = absurd (Option·none-ne-some _ e)
 
-reading-refused : (a : Reading) (k : ℕ) → refusalOf a ≡ some (8, k) → a ≡ answer.Refused k
+reading-refused : (a : Reading) (k : ℕ) → readRefusal a ≡ some (8, k) → a ≡ answer.Refused k
 reading-refused (answer.Case p n allowance count) k e = absurd (Option·none-ne-some _ e)
 reading-refused (answer.Refused j) k e = ap (λ t. answer.Refused (t .1)) (Option·some-injective _ _ e)
 

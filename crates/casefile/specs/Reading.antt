@@ -1,7 +1,7 @@
 -- What reading a whole file gives (01, "Case file, house layout").
 --   matrixRoom, candidateRoom   bytes enough for the matrix of any case, and for its candidates
 --   valuesOf a    p, n, the allowance and the number of candidates that the answer a gives
---   refusalOf a   01's number and the place that the answer a gives
+--   readRefusal a   01's number and the place that the answer a gives
 --   ReadIs s r    the contents r of the file s: the values of the case, its matrix and its candidates row after row with zeros behind them; or
 --                 number 8 with the place, and zeros
 --   HandedOut s r the same, by the steps of a reader of s: they hand out the records of a case and then say that it is over, and r has its values; or they
@@ -30,17 +30,17 @@ abbrev pub valuesOf : Reading → Option (ℕ × ℕ × ℕ × ℕ)
 valuesOf (answer.Case p n allowance count) = some (p, n, allowance, count)
 valuesOf (answer.Refused k) = none
 
-abbrev pub refusalOf : Reading → Option (ℕ × ℕ)
-refusalOf (answer.Case p n allowance count) = none
-refusalOf (answer.Refused k) = some (8, k)
+abbrev pub readRefusal : Reading → Option (ℕ × ℕ)
+readRefusal (answer.Case p n allowance count) = none
+readRefusal (answer.Refused k) = some (8, k)
 
 pub data ReadIs (s : List ℕ) (r : Contents) : Type 0 where
   reads : (c : Case) → IsCase s c → valuesOf (r .answer) ≡ some (c .p, c .n, allowanceOf c, length (c .candidates))
       → r .matrix ≡ padded matrixRoom (matrixBytes c) → r .candidates ≡ padded candidateRoom (candidateBytes c) → ReadIs s r
-  refuses : (k : ℕ) → ((c : Case) → ¬ IsCase s c) → Place s k → refusalOf (r .answer) ≡ some (8, k) → r .matrix ≡ replicate matrixRoom 0
+  refuses : (k : ℕ) → ((c : Case) → ¬ IsCase s c) → Place s k → readRefusal (r .answer) ≡ some (8, k) → r .matrix ≡ replicate matrixRoom 0
       → r .candidates ≡ replicate candidateRoom 0 → ReadIs s r
 
 pub data HandedOut (s : List ℕ) (r : Contents) : Type 0 where
   whole : (c : Case) → Ends s (records c) Over → valuesOf (r .answer) ≡ some (c .p, c .n, allowanceOf c, length (c .candidates))
       → r .matrix ≡ padded matrixRoom (matrixBytes c) → r .candidates ≡ padded candidateRoom (candidateBytes c) → HandedOut s r
-  stopped : (k : ℕ) → Stops s k → refusalOf (r .answer) ≡ some (8, k) → HandedOut s r
+  stopped : (k : ℕ) → Stops s k → readRefusal (r .answer) ≡ some (8, k) → HandedOut s r

@@ -1,5 +1,6 @@
 pub mod Bytes
 pub mod Refusal
+pub mod Called
 pub mod Unique
 pub mod Degrees
 pub mod Front

@@ -1,4 +1,13 @@
 -- What the refusal table says where a call is not refused, and where it is.
+--   isPrime-prime, prime-isPrime   the prime test is right, both ways
+--   noPrime-false, noSize-false, noMatrix-false, noRows-false, noVector-false, noPolynomial-false, badEntry-false, tooShort-false
+--                    where a test does not apply, what it looks at is good
+--   prime-noPrime, size-noSize, matrix-noMatrix, rows-noRows, vector-noVector, polynomial-noPolynomial, small-badEntry, long-tooShort
+--                    and where that is good, the test does not apply
+--   small-append     bytes below p behind bytes below p
+--   first-none, none-first   no number is due exactly when the first test does not apply and none is due for the rest
+--   inverse-sound, order-sound, image-sound, stand-sound, chain-sound, period-sound   what is known of an input that the call does not refuse
+--   sound-stand, sound-chain, sound-period   sound inputs with buffers that are long enough are not refused
 -- Assumes nothing.
 use mathlib.Core.Path.{_≡_, refl, sym, ap, _∙_}
 use mathlib.Core.Logic.{⊎-elim}

@@ -17,7 +17,7 @@ use borrow.Author.Tests.{leb-true, eqb-true}
 use Rattle.algebra.specs.Field.{Prime}
 use Rattle.algebra.specs.Row.{S}
 use Rattle.algebra.specs.Poly.{Poly, coef}
-use Rattle.algebra.specs.Orders.{Order, Alike}
+use Rattle.algebra.specs.Orders.{WithDegree, Alike}
 use Rattle.algebra.proofs.Act.{act-coef}
 use Rattle.algebra.proofs.Chain.{alike-product}
 use Rattle.meaning.specs.Ascii.{ascii}
@@ -28,7 +28,7 @@ use Rattle.meaning.specs.Print.{Each, Plain, Wordy}
 use Rattle.meaning.specs.Sheet.{fieldLine, standLines, stageLine, chainLine, periodLine, refusedLine, SheetLines}
 use Rattle.meaning.proofs.Unique.{alike-elim, stand-only, chain-only, period-only}
 
-pub alike-stageLines : {p : ℕ} (os qs : List (Order p)) → Alike os qs → map stageLine os ≡ map stageLine qs
+pub alike-stageLines : {p : ℕ} (os qs : List (WithDegree p)) → Alike os qs → map stageLine os ≡ map stageLine qs
 alike-stageLines =
     alike-elim (λ os qs. map stageLine os ≡ map stageLine qs) refl
     (λ o q os qs d c r. ap₂ _∷_ (λ i. record { word = "STAGE"; numbers = bytes (suc (d i)) (c i) }) r)
@@ -75,11 +75,11 @@ lettered-plain (b ∷ l) h = let t = and-eq-true-iff (leb 58 b || eqb 32 b) (let
 word-plain : (w : String) → lettered (ascii w) ≡ true → Each Plain (ascii w)
 word-plain w = lettered-plain (ascii w)
 
-last-wordy : {p : ℕ} (n : ℕ) (st : List (Order p)) (o : Option ℕ) → Wordy (chainLine n st ∷ periodLine o ∷ [])
+last-wordy : {p : ℕ} (n : ℕ) (st : List (WithDegree p)) (o : Option ℕ) → Wordy (chainLine n st ∷ periodLine o ∷ [])
 last-wordy n st none = (word-plain "CHAIN" refl, (word-plain "PERIOD none" refl, tt))
 last-wordy n st (some t) = (word-plain "CHAIN" refl, (word-plain "PERIOD" refl, tt))
 
-stages-wordy : {p : ℕ} (st : List (Order p)) (ys : List Line) → Wordy ys → Wordy (map stageLine st ++ ys)
+stages-wordy : {p : ℕ} (st : List (WithDegree p)) (ys : List Line) → Wordy ys → Wordy (map stageLine st ++ ys)
 stages-wordy [] ys h = h
 stages-wordy (s ∷ st) ys h = (word-plain "STAGE" refl, stages-wordy st ys h)
 

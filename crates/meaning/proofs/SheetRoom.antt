@@ -15,7 +15,7 @@ use native.Mathlib.Omega.{arith}
 use lib.ListN.{length, length-append}
 use Rattle.algebra.specs.Row.{S}
 use Rattle.algebra.specs.Poly.{Poly, coef, act}
-use Rattle.algebra.specs.Orders.{Order, product, degrees}
+use Rattle.algebra.specs.Orders.{WithDegree, product, degrees}
 use Rattle.algebra.proofs.Chain.{stages-positive}
 use Rattle.meaning.specs.Ascii.{ascii}
 use Rattle.meaning.specs.Bytes.{times, rows, e, bytes, Small}
@@ -91,7 +91,7 @@ standLines-length {p} n X short r f h b q t s d w =
     ) in
     le-trans (three-lines _ _ _ c g v) (omega arith)
 
-pub stageLines-length : {p : ℕ} (st : List (Order p)) → 0 < p → p ≤ 251 → length (text (map stageLine st)) ≤ 10 * length st + 4 * degrees st
+pub stageLines-length : {p : ℕ} (st : List (WithDegree p)) → 0 < p → p ≤ 251 → length (text (map stageLine st)) ≤ 10 * length st + 4 * degrees st
 unfolding degrees text
 stageLines-length [] h b = omega arith
 stageLines-length (s ∷ st) h b =
@@ -121,7 +121,7 @@ sheet-length x front mid y z =
 -- the witness of a short stand is one of the n unit rows
 tested-witness : {p : ℕ} (X : S p → S p) (n : ℕ) (f : Poly p) (s : Standing) (w : ℕ) → Tested X n f s w → s ≡ short → w ≤ n
 tested-witness X n f proved w T q = omega (arith, T .1)
-tested-witness X n f short w T q = T .1
+tested-witness X n f short w T q = T .to
 
 pub sheetLines-room : {p : ℕ} (n : ℕ) (m cs : List ℕ) (a : ℕ) (xs : List Line) → Sound p n m → SoundRows p n cs → a < 10 ^ 10
     → SheetLines p n m cs a xs → length (text xs) ≤ sheetRoom

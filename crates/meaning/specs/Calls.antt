@@ -15,12 +15,13 @@ use mathlib.Core.Option.{Option, none, some}
 use Prim.Native.Nat.{ℕ, suc, _*_}
 use lib.ListN.{length}
 use Rattle.algebra.specs.Poly.{Poly, coef}
-use Rattle.algebra.specs.Orders.{Order, product}
+use Rattle.algebra.specs.Orders.{WithDegree, product}
 use Rattle.meaning.specs.Bytes.{row, polyOf, times, bytes, write, padded}
 use Rattle.meaning.specs.Polynomial.{image, IsOrder}
 use Rattle.meaning.specs.Stand.{Outcome, IsStand, witnessRow}
 use Rattle.meaning.specs.Chain.{IsChain, stageBytes}
-use Rattle.meaning.specs.Period.{IsPeriod, IsInverse}
+use Rattle.meaning.specs.Inverse.{IsInverse}
+use Rattle.meaning.specs.Period.{IsPeriod}
 use Rattle.meaning.specs.Refusal.{inverseRefusal, orderRefusal, imageRefusal, standRefusal, chainRefusal, periodRefusal}
 
 pub data Answer (A : Type 0) : Type 0 where
@@ -57,7 +58,7 @@ abbrev pub StandCall : ℕ → ℕ → List ℕ → List ℕ → ℕ → List �
 StandCall p n m cs a old = Called (standRefusal p n m cs (old .0) (old .1)) (StandResult p n m cs a old) old
 
 pub record ChainResult (p n : ℕ) (m cs : List ℕ) (old : List ℕ × List ℕ) (count : ℕ) (new : List ℕ × List ℕ) : Type 0 where
-  pub stages : List (Order p)
+  pub stages : List (WithDegree p)
   pub chain : IsChain p n m cs stages
   pub number : count ≡ length stages
   pub product : new .0 ≡ write (bytes (suc n) (coef (product stages))) (old .0)

@@ -3,6 +3,7 @@ pub mod Bounds
 pub mod Polynomial
 pub mod Stand
 pub mod Chain
+pub mod Inverse
 pub mod Period
 pub mod Refusal
 pub mod Calls

@@ -20,7 +20,7 @@ use Prim.Native.Nat.{ℕ, suc}
 use lib.ListN.{length}
 use Rattle.algebra.specs.Row.{S}
 use Rattle.algebra.specs.Poly.{Poly, coef, act}
-use Rattle.algebra.specs.Orders.{Order, product}
+use Rattle.algebra.specs.Orders.{WithDegree, product}
 use Rattle.meaning.specs.Bytes.{times, e, bytes, write}
 use Rattle.meaning.specs.Stand.{Standing, proved, short, Outcome, IsStand}
 use Rattle.meaning.specs.Chain.{IsChain}
@@ -48,10 +48,10 @@ witnessLine n X short r f = record { word = "WITNESS"; numbers = r .witness ∷ 
 abbrev pub standLines : {p : ℕ} → ℕ → (S p → S p) → Standing → Outcome → Poly p → List Line
 standLines n X s r f = standLine s r ∷ polynomialLine s r f ∷ witnessLine n X s r f ∷ []
 
-abbrev pub stageLine : {p : ℕ} → Order p → Line
+abbrev pub stageLine : {p : ℕ} → WithDegree p → Line
 stageLine s = record { word = "STAGE"; numbers = bytes (suc (s .deg)) (coef (s .poly)) }
 
-abbrev pub chainLine : {p : ℕ} → ℕ → List (Order p) → Line
+abbrev pub chainLine : {p : ℕ} → ℕ → List (WithDegree p) → Line
 chainLine n st = record { word = "CHAIN"; numbers = bytes (suc n) (coef (product st)) }
 
 abbrev pub periodLine : Option ℕ → Line
@@ -65,7 +65,7 @@ pub record SheetLines (p n : ℕ) (m cs : List ℕ) (a : ℕ) (xs : List Line) :
   pub outcome : Outcome
   pub poly : Poly p
   pub stand : IsStand p n m cs a outcome poly
-  pub stages : List (Order p)
+  pub stages : List (WithDegree p)
   pub chain : IsChain p n m cs stages
   pub period : Option ℕ
   pub returns : IsPeriod p n m period

@@ -1,9 +1,16 @@
 -- Demands 2 and 3 of the call's answers and buffers: for any answers that the contract of the stand permits.
---   Answered ..   what an answer says: the input is within the bounds, and the stand is that of the polynomial in the buffer
+--   Answered ..        what an answer says: the input is within the bounds, and the stand is that of the polynomial in the buffer
+--   answer-sound, answer-room, answer-stand   an answered call: input within the bounds, buffers long enough, the stand of the polynomial in them
+--   answer-minimal, answer-short              demand 2
+--   answer-more, answer-reordered             demand 3, its first two sentences
+--   calls-bounded, calls-again, calls-few     what is known of each run of calls
+--   call-join          a run, and one from its last call on, are one run
+--   calls-end          demand 3, its last sentence: a run ends in proved within n − d additions, and every run does
 -- Assumes nothing.
-use mathlib.Core.Path.{_≡_, refl, sym, ap, _∙_}
+use mathlib.Core.Path.{_≡_, refl, sym, ap, subst, _∙_}
 use mathlib.Core.List.{List, _++_, Perm}
-use Prim.Native.Nat.{ℕ, suc, _-_, _/_, _≤_, suc-le-suc}
+use Prim.Native.Nat.{ℕ, zero, suc, _+_, _-_, _/_, _≤_, suc-le-suc}
+use native.Mathlib.Numerals.{unary-clauses}
 use native.Mathlib.Omega.{arith}
 use lib.ListN.{length, take}
 use lib.Seq.{take-at}
@@ -17,17 +24,17 @@ use Rattle.algebra.proofs.Gcd.{multiples-ideal}
 use Rattle.meaning.specs.Bytes.{row, times, byteRows, rows, e, bytes, write}
 use Rattle.meaning.specs.Bounds.{Sound, SoundRows}
 use Rattle.meaning.specs.Polynomial.{IsMinimal}
-use Rattle.meaning.specs.Stand.{Standing, proved, short, Tested, Outcome, IsStand, witnessRow}
+use Rattle.meaning.specs.Stand.{Standing, proved, short, Tested, Outcome, IsStand, witnessRow, FirstUnsent}
 use Rattle.meaning.specs.Calls.{Answer, given, StandCall}
 use Rattle.meaning.proofs.Bytes.{bytes-length, row-bytes, polyOf-coef}
 use Rattle.meaning.proofs.Refusal.{stand-sound, sound-stand}
 use Rattle.meaning.proofs.Unique.{lcm-least, least-lcm, witness-only}
 use Rattle.meaning.proofs.Degrees.{stand-degree}
 use Rattle.promises.specs.Run.{standOf}
-use Rattle.promises.specs.Witness.{FirstUnsent}
-use Rattle.promises.specs.Additions.{added, Run, start, more, Added}
-use Rattle.promises.specs.CallRun.{Buffers, shown, LongEnough, CallRun, first, again}
-use Rattle.promises.proofs.Calls.{called-given}
+use Rattle.promises.specs.Additions.{added, Run, start, more, AfterAdditions}
+use Rattle.promises.specs.CallRun.{Buffers, shown, LongEnough, CallRun, first, again, EndsProved, CallsEnd}
+use Rattle.meaning.proofs.Called.{called-given}
+use Rattle.promises.proofs.Calls.{stand-exists}
 use Rattle.promises.proofs.Demand2.{proved-minimal, minimal-proved, short-witness}
 use Rattle.promises.proofs.Demand3.{more-divides, more-keeps, reordered, additions-bounded, run-next}
 
@@ -35,7 +42,12 @@ use Rattle.promises.proofs.Demand3.{more-divides, more-keeps, reordered
 tested-resp : {p : ℕ} (X : S p → S p) (n : ℕ) (f g : Poly p) → coef f ≡ coef g → (s : Standing) (w : ℕ) → Tested X n f s w → Tested X n g s w
 tested-resp X n f g q proved w T = (λ i l h. sym (act-coef X f g q (e i)) ∙ T .0 i l h, T .1)
 tested-resp X n f g q short w T =
-    (T .0, T .1, λ K. T .2 (act-coef X f g q (e w) ∙ K), λ i l h. sym (act-coef X f g q (e i)) ∙ T .3 i l h)
+    record {
+      from = T .from;
+      to = T .to;
+      unsent = λ K. T .unsent (act-coef X f g q (e w) ∙ K);
+      first = λ i l h. sym (act-coef X f g q (e i)) ∙ T .first i l h;
+    }
 
 stand-resp : {p n : ℕ} {m cs : List ℕ} {a : ℕ} {r : Outcome} (f g : Poly p) → coef f ≡ coef g → IsStand p n m cs a r f → IsStand p n m cs a r g
 stand-resp {r} f g q A =
@@ -135,14 +147,14 @@ call-sound (first old new A) = (answered A .sound, answered A .list)
 call-sound (again old new R q A) = call-sound R
 
 -- each is bounded as promised
-pub calls-bounded : (p n : ℕ) (m cs : List ℕ) (a : ℕ) → length cs / n ≤ 64 → 8192 ≤ a → (r s : Outcome) (k : ℕ) (ds : List ℕ) → CallRun p n m a cs r k ds s → Added p n r k ds s
+pub calls-bounded : (p n : ℕ) (m cs : List ℕ) (a : ℕ) → length cs / n ≤ 64 → 8192 ≤ a → (r s : Outcome) (k : ℕ) (ds : List ℕ) → CallRun p n m a cs r k ds s → AfterAdditions p n r k ds s
 calls-bounded p n m cs a h le r s k ds R =
     let (A, B) = call-sound R in
     additions-bounded p n m cs A B h a le r s k ds (call-run R)
 
 -- and after a short answer so is the next
 calls-next : (p n : ℕ) (m cs : List ℕ) (a : ℕ) → length cs / n ≤ 64 → 8192 ≤ a → (r s : Outcome) (k : ℕ) (ds : List ℕ) → CallRun p n m a cs r k ds s → s .standing ≡ short
-    → Added p n r (suc k) (added p n ds s) (standOf p n m (added p n ds s) a)
+    → AfterAdditions p n r (suc k) (added p n ds s) (standOf p n m (added p n ds s) a)
 calls-next p n m cs a h le r s k ds R q =
     let (A, B) = call-sound R in
     additions-bounded p n m cs A B h a le r _ _ _ (run-next (A .prime) (call-run R) q)
@@ -164,3 +176,79 @@ calls-few p n m cs a h le r s k ds R =
     go : k ≡ n - r .degree → (t : Standing) → s .standing ≡ t → s .standing ≡ proved
     go c proved q = q
     go c short q = absurd (omega (arith, calls-next p n m cs a h le r s k ds R q))
+
+-- the buffers of an answered call are long enough
+pub answer-room : (p n : ℕ) (m cs : List ℕ) (a : ℕ) (old new : Buffers) (r : Outcome) → StandCall p n m cs a old (given r) new → LongEnough n old
+answer-room p n m cs a old new r A =
+    let K = stand-sound p n m cs (old .0) (old .1) (called-given A .0) in
+    (K .2, K .3)
+
+-- the last call of a run: a run of no additions, and its buffers
+call-last : {p n : ℕ} {m cs ds : List ℕ} {a k : ℕ} {r s : Outcome} → CallRun p n m a cs r k ds s → CallRun p n m a ds s zero ds s
+call-last (first old new A) = first old new A
+call-last (again old new R q A) = first old new A
+
+call-room : {p n : ℕ} {m cs ds : List ℕ} {a k : ℕ} {r s : Outcome} → CallRun p n m a cs r k ds s → (old : Buffers) × LongEnough n old
+call-room (first old new A) = (old, answer-room _ _ _ _ _ old new _ A)
+call-room (again old new R q A) = (old, answer-room _ _ _ _ _ old new _ A)
+
+-- a run, and one from its last call on, are one run
+pub call-join : {p n : ℕ} {m cs ds es : List ℕ} {a k j : ℕ} {r s t : Outcome} → CallRun p n m a cs r k ds s → CallRun p n m a ds s j es t
+    → CallRun p n m a cs r (k + j) es t
+call-join R (first old new A) = simp unary-clauses R
+call-join R (again old new T q A) = simp unary-clauses (again old new (call-join R T) q A)
+
+-- a run that ends in proved, with one addition before it
+ends-before : {p n : ℕ} {m cs ds : List ℕ} {a i j : ℕ} {r s : Outcome} → CallRun p n m a cs r 1 ds s → j + 1 ≤ i
+    → EndsProved p n m a ds s j → EndsProved p n m a cs r i
+ends-before R l E =
+    record { additions = 1 + E .additions; list = E .list; last = E .last; run = call-join R (E .run); ended = E .ended; few = omega (arith, E .few) }
+
+-- the last sentence as one: from a first call that is answered, on at most 64 rows, with an allowance of 8,192 or more, a run ends in proved within
+-- n − d additions, and every run does
+pub calls-end : (p n : ℕ) (m cs : List ℕ) (a : ℕ) → length cs / n ≤ 64 → 8192 ≤ a → (old new : Buffers) (r : Outcome)
+    → StandCall p n m cs a old (given r) new → CallsEnd p n m a cs r
+calls-end p n m cs a h le old new r A =
+    record {
+      some-run = simp unary-clauses at (finishes (first old new A));
+      few = λ R. few R .0;
+      full = λ R. few R .1;
+      next = next;
+      unrefused = calls-again p n m cs a h le r _ _ _;
+      finishes = finishes;
+    }
+  where
+    few : {k : ℕ} {ds : List ℕ} {s : Outcome} → CallRun p n m a cs r k ds s → (k ≤ n - r .degree) × (k ≡ n - r .degree → s .standing ≡ proved)
+    few R = calls-few p n m cs a h le r _ _ _ R
+
+    next : {k : ℕ} {ds : List ℕ} {s : Outcome} → CallRun p n m a cs r k ds s → s .standing ≡ short → (lent : Buffers) → LongEnough n lent
+        → (t : Outcome) × (left : Buffers) × StandCall p n m (added p n ds s) a lent (given t) left
+    next {k} {ds} {s} R q lent l =
+        let (x, left, C) = stand-exists p n m (added p n ds s) a lent in
+        let (t, y) = calls-again p n m cs a h le r s k ds R q lent left l x C in
+        (t, left, subst (λ z. StandCall p n m (added p n ds s) a lent z left) y C)
+
+    -- the next call, behind the run and behind its last call alone
+    onward : {k : ℕ} {ds : List ℕ} {s : Outcome} → CallRun p n m a cs r k ds s → s .standing ≡ short
+        → (t : Outcome) × CallRun p n m a cs r (suc k) (added p n ds s) t × CallRun p n m a ds s 1 (added p n ds s) t
+    onward R q =
+        let (lent, l) = call-room R in
+        let (t, left, C) = next R q lent l in
+        (t, again lent left R q C, again lent left (call-last R) q C)
+
+    ended : {k : ℕ} {ds : List ℕ} {s : Outcome} → CallRun p n m a cs r k ds s → (t : Standing) → s .standing ≡ t
+        → (t ≡ short → EndsProved p n m a ds s (n - r .degree - k)) → EndsProved p n m a ds s (n - r .degree - k)
+    ended {ds = ds} {s = s} R proved q f = record { additions = 0; list = ds; last = s; run = call-last R; ended = q; few = omega arith }
+    ended R short q f = f refl
+
+    -- j bounds the additions to come
+    go : (j : ℕ) {k : ℕ} {ds : List ℕ} {s : Outcome} → CallRun p n m a cs r k ds s → n - r .degree ≤ k + j
+        → EndsProved p n m a ds s (n - r .degree - k)
+    go zero {s = s} R l = ended R (s .standing) refl (λ q. absurd (omega (arith, few (onward R q .1) .0)))
+    go (suc j) {s = s} R l =
+        ended R (s .standing) refl (λ q.
+        let (t, T, one) = onward R q in
+        ends-before one (omega (arith, few T .0)) (go j T (omega arith)))
+
+    finishes : {k : ℕ} {ds : List ℕ} {s : Outcome} → CallRun p n m a cs r k ds s → EndsProved p n m a ds s (n - r .degree - k)
+    finishes R = go n R (omega arith)

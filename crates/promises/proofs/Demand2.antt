@@ -1,5 +1,10 @@
 -- Demand 2: the polynomial is the least that sends the taken rows to zero; it is marked proved exactly when it is the minimal polynomial,
 -- and else the witness is the first unit row that it does not send to zero.
+--   polynomial-least     it is the least monic polynomial that sends every taken row to zero
+--   polynomial-divides   it divides whatever sends M to zero
+--   proved-minimal       where it is marked proved, it is the minimal polynomial
+--   minimal-proved       where it sends M to zero, it is marked proved
+--   short-witness        where it is marked short, the witness is the first unit row that it does not send to zero
 -- Assumes nothing.
 use mathlib.Core.Path.{_≡_, refl, subst}
 use mathlib.Core.List.{List}
@@ -13,10 +18,9 @@ use Rattle.algebra.proofs.Poly.{least-divides}
 use Rattle.algebra.proofs.Orders.{kills-all-ideal, kills-every-all, least-minimal}
 use Rattle.meaning.specs.Bytes.{times, rows, e}
 use Rattle.meaning.specs.Polynomial.{IsMinimal}
-use Rattle.meaning.specs.Stand.{Standing, proved, short, Outcome, IsStand}
+use Rattle.meaning.specs.Stand.{Standing, proved, short, Outcome, IsStand, FirstUnsent}
 use Rattle.meaning.proofs.Bytes.{times-linear, e-below, rows-below}
 use Rattle.meaning.proofs.Degrees.{below-take, stand-least}
-use Rattle.promises.specs.Witness.{FirstUnsent}
 
 -- the unit rows e(1), .., e(n) are those at the places below n
 e-units : {p : ℕ} (X : S p → S p) (n : ℕ) (f : Poly p) → ((i : ℕ) → 1 ≤ i → i ≤ n → Kills X (e i) f) → (i : ℕ) → i < n → Kills X (unit i) f
@@ -54,11 +58,9 @@ minimal-proved {p} n m cs a r f A h = go (r .standing) refl
   where
     go : (s : Standing) → r .standing ≡ s → r .standing ≡ proved
     go proved q = q
-    go short q = let t = rw q at (A .tested) in absurd (t .2 (h (e (r .witness)) (e-below n _ (t .0) (t .1))))
+    go short q = let t = rw q at (A .tested) in absurd (t .unsent (h (e (r .witness)) (e-below n _ (t .from) (t .to))))
 
 -- short: the witness is the first unit row that F does not send to zero
 pub short-witness : {p : ℕ} (n : ℕ) (m cs : List ℕ) (a : ℕ) (r : Outcome) (f : Poly p) → IsStand p n m cs a r f → r .standing ≡ short
     → FirstUnsent (times p n m) n f (r .witness)
-short-witness n m cs a r f A q =
-    let t = rw q at (A .tested) in
-    record { from = t .0; to = t .1; unsent = t .2; first = t .3 }
+short-witness n m cs a r f A q = rw q at (A .tested)

@@ -1,6 +1,12 @@
 -- Demand 3, its three sentences: a longer list or a larger allowance, another sequence of the rows, the adding of reported unit rows.
+--   more-taken, more-divides   with more rows behind, a larger allowance, or both: no fewer rows are taken, and the polynomial divides the new one
+--   more-keeps       a proved one stays, with its mark
 --   weight p n m b   the degree of the order of the row with the bytes b
---   Grown ..         the list after k additions, and its stand
+--   reordered        where all rows are taken, another sequence changes nothing
+--   GrownSo ..       the list after k additions, and its stand
+--   run-next         while it is short, a run goes on
+--   additions-bounded   each addition raises the degree, which never passes n; the list is within the bounds, and all of it is taken
+--   additions-end    proved is reached after at most n − d additions, d the first degree
 -- Assumes nothing.
 use mathlib.Core.Path.{_≡_, refl, sym, ap, ap₂, subst, _∙_}
 use mathlib.Core.Logic.{∥∥₁-elim}
@@ -15,12 +21,12 @@ use lib.Seq.{take-all, take-length, take-append-le}
 use Rattle.algebra.specs.Field.{Prime}
 use Rattle.algebra.specs.Row.{S, Linear}
 use Rattle.algebra.specs.Poly.{Poly, coef, _∣_, Least, Kills}
-use Rattle.algebra.specs.Orders.{AllBelow, Order, Orders, KillsAll}
+use Rattle.algebra.specs.Orders.{AllBelow, WithDegree, Orders, KillsAll}
 use Rattle.algebra.specs.Spin.{orderOf}
 use Rattle.algebra.proofs.Field.{fp-path}
 use Rattle.algebra.proofs.Act.{act-coef}
 use Rattle.algebra.proofs.Poly.{divides-antisym, divides-grows, least-unique, least-same, kills-ideal}
-use Rattle.algebra.proofs.Orders.{kills-all-ideal, kills-every-ideal, least-inside, orders-unique}
+use Rattle.algebra.proofs.Orders.{kills-all-ideal, kills-every-ideal, kills-last, least-inside, orders-unique}
 use Rattle.algebra.proofs.Chain.{annihilator}
 use Rattle.meaning.specs.Bytes.{Small, row, times, byteRows, rows, e, bytes}
 use Rattle.meaning.specs.Stand.{sum, degs, Standing, proved, short, Outcome, IsStand}
@@ -31,12 +37,12 @@ use Rattle.meaning.proofs.Unique.{alike-degs, tested-only, outcome-path}
 use Rattle.promises.specs.Run.{ordersOf, standOf}
 use Rattle.meaning.proofs.Degrees.{orders-count, stand-degree, order-degree}
 use Rattle.promises.proofs.Found.{ordersOf-orders, stand-found}
-use Rattle.promises.specs.Additions.{added, Run, start, more, Added, Reached}
+use Rattle.promises.specs.Additions.{added, Run, start, more, AfterAdditions, RunProved}
 use Rattle.promises.proofs.Demand2.{polynomial-least, polynomial-divides, proved-minimal, minimal-proved, short-witness}
 
 -- rows and their orders, one for each
 -- more rows behind leave the degrees of the front as they are
-orders-front : {p : ℕ} {X : S p → S p} → Prime p → Linear X → (vs ws : List (S p)) (os qs : List (Order p)) → Orders X vs os → Orders X (vs ++ ws) qs
+orders-front : {p : ℕ} {X : S p → S p} → Prime p → Linear X → (vs ws : List (S p)) (os qs : List (WithDegree p)) → Orders X vs os → Orders X (vs ++ ws) qs
     → (t : ℕ) → t ≤ length vs → take t (degs os) ≡ take t (degs qs)
 orders-front P L vs ws os qs O Q zero h = refl
 orders-front P L [] ws os qs O Q (suc t) h = absurd (not-suc-le-zero h)
@@ -173,7 +179,7 @@ reordered {p} P n m cs ds π a r s f g A B h =
 -- (c) adding reported unit rows, from at most 64 rows and an allowance of 8,192 or more. Each addition raises the degree, which never passes n;
 -- the list never passes 128 rows, and all rows are taken throughout
 -- k rows cost at most k·n
-orders-cost : {p : ℕ} → Prime p → (n : ℕ) (m : List ℕ) (vs : List (S p)) → AllBelow n vs → (os : List (Order p)) → Orders (times p n m) vs os
+orders-cost : {p : ℕ} → Prime p → (n : ℕ) (m : List ℕ) (vs : List (S p)) → AllBelow n vs → (os : List (WithDegree p)) → Orders (times p n m) vs os
     → sum (degs os) ≤ length vs * n
 unfolding sum
 orders-cost P n m [] b [] O = omega arith
@@ -182,12 +188,8 @@ orders-cost P n m (v ∷ vs) b [] O = absurd O
 orders-cost P n m (v ∷ vs) b (o ∷ os) O =
     omega (arith, order-degree P n m v (b .0) (o .deg) (o .poly) (O .0), orders-cost P n m vs (b .1) os (O .1))
 
-kills-last : {p : ℕ} (X : S p → S p) (vs : List (S p)) (v : S p) (f : Poly p) → KillsAll X (vs ++ v ∷ []) f → Kills X v f
-kills-last X [] v f h = h .0
-kills-last X (u ∷ vs) v f h = kills-last X vs v f (h .1)
-
 -- what is known of a run: the list is the first one with k rows behind it
-record Grown (p n : ℕ) (m cs : List ℕ) (a : ℕ) (r : Outcome) (k : ℕ) (ds : List ℕ) (s : Outcome) : Type 0 where
+record GrownSo (p n : ℕ) (m cs : List ℕ) (a : ℕ) (r : Outcome) (k : ℕ) (ds : List ℕ) (s : Outcome) : Type 0 where
   risen : r .degree + k ≤ s .degree
   whole : length ds ≡ (length cs / n + k) * n
   entries : Small p ds
@@ -225,8 +227,8 @@ module _ (p n : ℕ) (m : List ℕ) (A : Sound p n m) (a : ℕ) (le : 8192 ≤ a
       (more-divides (A .prime) n (A .some-size) m ds u k whole a a (le-refl a) s t f g S T) (λ c. w .unsent (act-coef X f g c _ ∙ K))
 
   module _ (cs : List ℕ) (B : SoundRows p n cs) (h : length cs / n ≤ 64) (r : Outcome) where
-    grown-more : (k : ℕ) (ds : List ℕ) (s t : Outcome) (g : Poly p) → Grown p n m cs a r k ds s → s .standing ≡ short → IsStand p n m (added p n ds s) a t g
-        → Grown p n m cs a r (suc k) (added p n ds s) t
+    grown-more : (k : ℕ) (ds : List ℕ) (s t : Outcome) (g : Poly p) → GrownSo p n m cs a r k ds s → s .standing ≡ short → IsStand p n m (added p n ds s) a t g
+        → GrownSo p n m cs a r (suc k) (added p n ds s) t
     unfolding added
     grown-more k ds s t g G q T =
         let c = length cs / n in
@@ -243,11 +245,11 @@ module _ (p n : ℕ) (m : List ℕ) (A : Sound p n m) (a : ℕ) (le : 8192 ≤ a
           stand = T;
         }
 
-    run-grown : {s : Outcome} {k : ℕ} {ds : List ℕ} → Run p n m a cs r k ds s → Grown p n m cs a r k ds s
+    run-grown : {s : Outcome} {k : ℕ} {ds : List ℕ} → Run p n m a cs r k ds s → GrownSo p n m cs a r k ds s
     run-grown (start f S) = record { risen = omega arith; whole = rw add-zero (B .whole); entries = B .entries; poly = f; stand = S }
     run-grown (more {k = k} {ds = ds} {s = s} {t = t} f R q S) = grown-more k ds s t f (run-grown R) q S
 
-    grown-added : (k : ℕ) (ds : List ℕ) (s : Outcome) → Grown p n m cs a r k ds s → Added p n r k ds s
+    grown-added : (k : ℕ) (ds : List ℕ) (s : Outcome) → GrownSo p n m cs a r k ds s → AfterAdditions p n r k ds s
     grown-added k ds s G =
         let b = stand-degree (A .prime) n m ds a s (G .poly) (G .stand) in
         let c = div-eq-of-eq-mul-left (A .some-size) (G .whole) in
@@ -265,23 +267,23 @@ pub run-next : {p n : ℕ} {m cs ds : List ℕ} {a k : ℕ} {r s : Outcome} → 
 run-next {n} {m} {a} P R q = more _ R q (stand-found P n m _ a)
 
 pub additions-bounded : (p n : ℕ) (m cs : List ℕ) → Sound p n m → SoundRows p n cs → length cs / n ≤ 64 → (a : ℕ) → 8192 ≤ a → (r s : Outcome) (k : ℕ)
-    (ds : List ℕ) → Run p n m a cs r k ds s → Added p n r k ds s
+    (ds : List ℕ) → Run p n m a cs r k ds s → AfterAdditions p n r k ds s
 additions-bounded p n m cs A B h a le r s k ds R = grown-added p n m A a le cs B h r k ds s (run-grown p n m A a le cs B h r R)
 
 -- so proved is reached after at most n − d additions, d the first degree
 pub additions-end : (p n : ℕ) (m cs : List ℕ) → Sound p n m → SoundRows p n cs → length cs / n ≤ 64 → (a : ℕ) → 8192 ≤ a → (r : Outcome) (f : Poly p)
-    → IsStand p n m cs a r f → Reached p n m a cs r
+    → IsStand p n m cs a r f → RunProved p n m a cs r
 additions-end p n m cs A B h a le r f S = go n zero cs r (start f S) (omega arith)
   where
-    bound : (s : Outcome) (k : ℕ) (ds : List ℕ) → Run p n m a cs r k ds s → Added p n r k ds s
+    bound : (s : Outcome) (k : ℕ) (ds : List ℕ) → Run p n m a cs r k ds s → AfterAdditions p n r k ds s
     bound = additions-bounded p n m cs A B h a le r
 
-    ended : (s : Outcome) (k : ℕ) (ds : List ℕ) → Run p n m a cs r k ds s → (t : Standing) → s .standing ≡ t → (t ≡ short → Reached p n m a cs r)
-        → Reached p n m a cs r
+    ended : (s : Outcome) (k : ℕ) (ds : List ℕ) → Run p n m a cs r k ds s → (t : Standing) → s .standing ≡ t → (t ≡ short → RunProved p n m a cs r)
+        → RunProved p n m a cs r
     ended s k ds R proved q go = record { additions = k; list = ds; last = s; run = R; reached = q; few = omega (arith, bound s k ds R) }
     ended s k ds R short q go = go refl
 
     -- j bounds the additions to come
-    go : (j k : ℕ) (ds : List ℕ) (s : Outcome) → Run p n m a cs r k ds s → n ≤ r .degree + k + j → Reached p n m a cs r
+    go : (j k : ℕ) (ds : List ℕ) (s : Outcome) → Run p n m a cs r k ds s → n ≤ r .degree + k + j → RunProved p n m a cs r
     go zero k ds s R l = ended s k ds R (s .standing) refl (λ q. absurd (omega (arith, bound _ _ _ (run-next (A .prime) R q))))
     go (suc j) k ds s R l = ended s k ds R (s .standing) refl (λ q. go j (suc k) (added p n ds s) _ (run-next (A .prime) R q) (omega arith))

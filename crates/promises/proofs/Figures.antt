@@ -1,4 +1,5 @@
 -- P1 to P11 hold of the definitions: the functions of Run, which give what the definitions ask for on every input, are run on the table.
+--   figures          every figure of the table holds
 -- Assumes nothing.
 use mathlib.Core.Path.{_≡_, refl, ap, ap₂, _∙_}
 use mathlib.Core.Bool.{Bool, true}
@@ -10,21 +11,21 @@ use Rattle.algebra.specs.Row.{unit, 0ᵥ, _+ᵥ_, _·ᵥ_, comb}
 use Rattle.algebra.specs.Poly.{Poly, coef, poly, _⊞_, _⊡_, _⊠_, act}
 use Rattle.algebra.specs.Gcd.{size, head, monic, divide-turn, divide, gcd-steps, gcd, lcm, lcms}
 use Rattle.algebra.specs.Echelon.{lead, deeper, clear, reduce}
-use Rattle.algebra.specs.Orders.{Order, Alike, units, product}
-use Rattle.algebra.specs.Spin.{long, cut, tail, cutKept, newKept, spin, spinOver, orderOf, keep, chain}
+use Rattle.algebra.specs.Orders.{WithDegree, Alike, units, product}
+use Rattle.algebra.specs.Spin.{long, clip, tail, clipKept, newKept, spin, spinOver, orderOf, keep, chain}
 use Rattle.algebra.proofs.Chain.{alike-product}
 use Rattle.meaning.specs.Bytes.{tab, row, rowAt, byteRows, rows, times, bytes, e}
-use Rattle.meaning.specs.Stand.{sum, Outcome}
+use Rattle.meaning.specs.Stand.{sum, Outcome, standingOf}
 use Rattle.meaning.specs.Period.{longest}
 use Rattle.meaning.specs.Refusal.{isPrime, allBelow}
-use Rattle.promises.specs.Figures.{Sheet, Figure, asked, written, sheet, Holds, AllHold, table}
+use Rattle.promises.specs.Figures.{Sheet, Figure, asked, written, sheet, FigureHolds, AllHold, table}
 use Rattle.meaning.proofs.Refusal.{isPrime-prime}
 use Rattle.meaning.proofs.Unique.{stand-only, chain-only, period-only, witness-only, alike-length}
-use Rattle.promises.specs.Run.{takenOf, witnessOf, standingOf, ordersOf, standOrders, standTaken, standPoly, standWitness, standOf, chainOf}
+use Rattle.promises.specs.Run.{takenOf, witnessOf, ordersOf, standOrders, standTaken, standPoly, standWitness, standOf, chainOf}
 use Rattle.promises.specs.Run.{same, sameRows, firstPower, nextPower, periodFrom, periodOf}
 use Rattle.promises.proofs.Found.{stand-found, chain-found, period-found}
 
-alike-written : {p : ℕ} (os qs : List (Order p)) → Alike os qs → map written os ≡ map written qs
+alike-written : {p : ℕ} (os qs : List (WithDegree p)) → Alike os qs → map written os ≡ map written qs
 unfolding written
 alike-written [] [] h = refl
 alike-written [] (q ∷ qs) h = absurd h
@@ -35,7 +36,7 @@ module _ (g : Figure) where
   open Figure g using (p, n, m, cs, a, shows)
 
   -- a sheet depends on the polynomial and the stages through their coefficients only
-  sheet-only : (r s : Outcome) (f k : Poly p) (st ss : List (Order p)) (t u : Option ℕ) → r ≡ s → coef f ≡ coef k → Alike st ss → t ≡ u
+  sheet-only : (r s : Outcome) (f k : Poly p) (st ss : List (WithDegree p)) (t u : Option ℕ) → r ≡ s → coef f ≡ coef k → Alike st ss → t ≡ u
       → sheet g r f st t ≡ sheet g s k ss u
   unfolding sheet
   sheet-only r s f k st ss t u q h c d = λ i. record {
@@ -58,7 +59,7 @@ module _ (g : Figure) where
   claim : Bool × Sheet
   claim = (true, shows)
 
-  run-holds : run ≡ claim → Holds g
+  run-holds : run ≡ claim → FigureHolds g
   unfolding run claim
   run-holds q =
       let P = isPrime-prime p (ap (λ x. x .0) q) .0 in
@@ -85,7 +86,7 @@ runs-hold (g ∷ gs) q = (run-holds g (cc), runs-hold gs (cc))
 
 table-runs : map run table ≡ map claim table
 unfolding run claim isPrime allBelow fp inv inv-steps 𝟘 𝟙 _⊕_ _⊗_ neg isZero unit 0ᵥ _+ᵥ_ _·ᵥ_ comb act coef poly _⊞_ _⊡_ _⊠_ size head
-    monic divide-turn divide gcd-steps gcd lcm lcms lead deeper clear reduce units product long cut tail cutKept newKept spin spinOver
+    monic divide-turn divide gcd-steps gcd lcm lcms lead deeper clear reduce units product long clip tail clipKept newKept spin spinOver
     orderOf keep chain tab row rowAt byteRows rows times bytes e sum longest table written sheet takenOf witnessOf standingOf ordersOf
     standOrders standTaken standPoly standWitness standOf chainOf same sameRows firstPower nextPower periodFrom periodOf
 table-runs = refl

@@ -5,3 +5,4 @@ pub mod Demand2
 pub mod Demand3
 pub mod Answers
 pub mod Sheet
+pub mod Wrong

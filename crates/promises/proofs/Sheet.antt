@@ -24,7 +24,7 @@ use lib.Text.{eqt, eqt-refl}
 use Rattle.algebra.specs.Field.{Prime}
 use Rattle.algebra.specs.Row.{S}
 use Rattle.algebra.specs.Poly.{Poly, coef, act}
-use Rattle.algebra.specs.Orders.{Order}
+use Rattle.algebra.specs.Orders.{WithDegree}
 use Rattle.algebra.proofs.Act.{act-coef}
 use Rattle.meaning.specs.Bytes.{times, e, bytes}
 use Rattle.meaning.specs.Stand.{Standing, proved, short, Outcome}
@@ -118,17 +118,17 @@ has-past [] ys w l q h = h
 has-past (x ∷ xs) ys w l q (inl h) = absurd (other-word (x .word) w (and-eq-true-iff (otherWord (x .word) w) (others xs w) .0 q .0) (h .0))
 has-past (x ∷ xs) ys w l q (inr h) = has-past xs ys w l (and-eq-true-iff (otherWord (x .word) w) (others xs w) .0 q .1) h
 
-stages-past : {p : ℕ} (w : String) (l : List ℕ) → otherWord "STAGE" w ≡ true → (st : List (Order p)) (ys : List Line) → Has (map stageLine st ++ ys) w l → Has ys w l
+stages-past : {p : ℕ} (w : String) (l : List ℕ) → otherWord "STAGE" w ≡ true → (st : List (WithDegree p)) (ys : List Line) → Has (map stageLine st ++ ys) w l → Has ys w l
 stages-past w l q [] ys h = h
 stages-past w l q (s ∷ st) ys (inl h) = absurd (other-word "STAGE" w q (h .0))
 stages-past w l q (s ∷ st) ys (inr h) = stages-past w l q st ys h
 
 -- behind the lines of the stand there are STAGE, CHAIN and PERIOD lines only
-abbrev behind : {p : ℕ} → ℕ → List (Order p) → Option ℕ → List Line
+abbrev behind : {p : ℕ} → ℕ → List (WithDegree p) → Option ℕ → List Line
 behind n st o = map stageLine st ++ (chainLine n st ∷ periodLine o ∷ [])
 
 behind-not : {p : ℕ} (w : String) (l : List ℕ) → otherWord "STAGE" w ≡ true → otherWord "CHAIN" w ≡ true → otherWord "PERIOD" w ≡ true → otherWord "PERIOD none" w ≡ true
-    → (n : ℕ) (st : List (Order p)) (o : Option ℕ) → ¬ Has (behind n st o) w l
+    → (n : ℕ) (st : List (WithDegree p)) (o : Option ℕ) → ¬ Has (behind n st o) w l
 behind-not w l s c y z n st o h = last o (stages-past w l s st (chainLine n st ∷ periodLine o ∷ []) h)
   where
     last : (o : Option ℕ) → ¬ Has (chainLine n st ∷ periodLine o ∷ []) w l
@@ -137,14 +137,14 @@ behind-not w l s c y z n st o h = last o (stages-past w l s st (chainLine n st �
     last (some t) (inr (inl h)) = other-word "PERIOD" w y (h .0)
 
 -- so a MINPOLY line is that of a proved stand, a DIVISOR line that of a short one, with its WITNESS line behind it, and a REFUSED line that of no case
-abbrev printedLines : {p : ℕ} → ℕ → (S p → S p) → Standing → Outcome → Poly p → List (Order p) → Option ℕ → List Line
+abbrev printedLines : {p : ℕ} → ℕ → (S p → S p) → Standing → Outcome → Poly p → List (WithDegree p) → Option ℕ → List Line
 printedLines {p} n X s r f st o = fieldLine p n ∷ (standLines n X s r f ++ behind n st o)
 
-stand-past : {p : ℕ} (n : ℕ) (X : S p → S p) (s : Standing) (r : Outcome) (f : Poly p) (st : List (Order p)) (o : Option ℕ) (w : String) (l : List ℕ)
+stand-past : {p : ℕ} (n : ℕ) (X : S p → S p) (s : Standing) (r : Outcome) (f : Poly p) (st : List (WithDegree p)) (o : Option ℕ) (w : String) (l : List ℕ)
     → others (fieldLine p n ∷ standLines n X s r f) w ≡ true → Has (printedLines n X s r f st o) w l → Has (behind n st o) w l
 stand-past {p} n X s r f st o w l q h = has-past (fieldLine p n ∷ standLines n X s r f) (behind n st o) w l q h
 
-minpoly-proved : {p : ℕ} (n : ℕ) (X : S p → S p) (s : Standing) (r : Outcome) (f : Poly p) (st : List (Order p)) (o : Option ℕ) (l : List ℕ)
+minpoly-proved : {p : ℕ} (n : ℕ) (X : S p → S p) (s : Standing) (r : Outcome) (f : Poly p) (st : List (WithDegree p)) (o : Option ℕ) (l : List ℕ)
     → Has (printedLines n X s r f st o) "MINPOLY" l → (s ≡ proved) × (l ≡ bytes (suc (r .degree)) (coef f))
 minpoly-proved n X proved r f st o l (inl h) = absurd (other-word "FIELD" "MINPOLY" refl (h .0))
 minpoly-proved n X proved r f st o l (inr (inl h)) = absurd (other-word "STAND proved" "MINPOLY" refl (h .0))
@@ -153,7 +153,7 @@ minpoly-proved n X proved r f st o l (inr (inr (inr (inl h)))) = absurd (other-w
 minpoly-proved n X proved r f st o l (inr (inr (inr (inr h)))) = absurd (behind-not "MINPOLY" l refl refl refl refl n st o h)
 minpoly-proved n X short r f st o l h = absurd (behind-not "MINPOLY" l refl refl refl refl n st o (stand-past n X short r f st o "MINPOLY" l refl h))
 
-divisor-short : {p : ℕ} (n : ℕ) (X : S p → S p) (s : Standing) (r : Outcome) (f : Poly p) (st : List (Order p)) (o : Option ℕ) (l : List ℕ)
+divisor-short : {p : ℕ} (n : ℕ) (X : S p → S p) (s : Standing) (r : Outcome) (f : Poly p) (st : List (WithDegree p)) (o : Option ℕ) (l : List ℕ)
     → Has (printedLines n X s r f st o) "DIVISOR" l
     → (s ≡ short) × (l ≡ bytes (suc (r .degree)) (coef f)) × Has (printedLines n X s r f st o) "WITNESS" (r .witness ∷ bytes n (act X f (e (r .witness))))
 divisor-short n X short r f st o l (inl h) = absurd (other-word "FIELD" "DIVISOR" refl (h .0))
@@ -163,7 +163,7 @@ divisor-short n X short r f st o l (inr (inr (inr (inl h)))) = absurd (other-wor
 divisor-short n X short r f st o l (inr (inr (inr (inr h)))) = absurd (behind-not "DIVISOR" l refl refl refl refl n st o h)
 divisor-short n X proved r f st o l h = absurd (behind-not "DIVISOR" l refl refl refl refl n st o (stand-past n X proved r f st o "DIVISOR" l refl h))
 
-refused-nowhere : {p : ℕ} (n : ℕ) (X : S p → S p) (s : Standing) (r : Outcome) (f : Poly p) (st : List (Order p)) (o : Option ℕ) (l : List ℕ)
+refused-nowhere : {p : ℕ} (n : ℕ) (X : S p → S p) (s : Standing) (r : Outcome) (f : Poly p) (st : List (WithDegree p)) (o : Option ℕ) (l : List ℕ)
     → ¬ Has (printedLines n X s r f st o) "REFUSED" l
 refused-nowhere n X proved r f st o l h = behind-not "REFUSED" l refl refl refl refl n st o (stand-past n X proved r f st o "REFUSED" l refl h)
 refused-nowhere n X short r f st o l h = behind-not "REFUSED" l refl refl refl refl n st o (stand-past n X short r f st o "REFUSED" l refl h)

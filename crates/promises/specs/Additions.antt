@@ -1,8 +1,8 @@
 -- The run of calls of demand 3's last sentence: call the stand; while it is short, append the reported unit row and call again.
 --   added p n ds s            the list ds with the unit row that s reports behind it
 --   Run p n m a cs r k ds s   from the list cs, answered by r, k additions lead to the list ds, answered by s
---   Added p n r k ds s        what is promised of each such list and answer
---   Reached p n m a cs r      what is promised in the end
+--   AfterAdditions p n r k ds s        what is promised of each such list and answer
+--   RunProved p n m a cs r      what is promised in the end
 -- Assumes nothing.
 use mathlib.Core.Path.{_≡_}
 use mathlib.Core.List.{List, _++_}
@@ -22,14 +22,14 @@ pub data Run (p n : ℕ) (m : List ℕ) (a : ℕ) (cs : List ℕ) (r : Outcome) 
       → IsStand p n m (added p n ds s) a t f → Run p n m a cs r (suc k) (added p n ds s) t
 
 -- what holds after k additions: each has raised the degree, which never passes n; the list is within the bounds of the call, and all of it is taken
-pub record Added (p n : ℕ) (r : Outcome) (k : ℕ) (ds : List ℕ) (s : Outcome) : Type 0 where
+pub record AfterAdditions (p n : ℕ) (r : Outcome) (k : ℕ) (ds : List ℕ) (s : Outcome) : Type 0 where
   pub risen : r .degree + k ≤ s .degree
   pub bounded : s .degree ≤ n
   pub sound : SoundRows p n ds
   pub all-taken : s .taken ≡ length (rows p n ds)
 
 -- at most n − d additions reach proved, d the first degree
-pub record Reached (p n : ℕ) (m : List ℕ) (a : ℕ) (cs : List ℕ) (r : Outcome) : Type 0 where
+pub record RunProved (p n : ℕ) (m : List ℕ) (a : ℕ) (cs : List ℕ) (r : Outcome) : Type 0 where
   pub additions : ℕ
   pub list : List ℕ
   pub last : Outcome

@@ -4,7 +4,7 @@
 --   asked q x      x, where the figure gives that column
 --   written o      the coefficients of a polynomial up to the leading 1
 --   sheet g ..     what the definitions give, in the columns of the figure g
---   Holds g        whatever the definitions permit for the input of g shows what g shows; and they permit something
+--   FigureHolds g        whatever the definitions permit for the input of g shows what g shows; and they permit something
 --   AllHold        every figure of a table holds
 --   figure, stand, chained   a figure from its columns
 --   P1, P2, P3, P4, P5, P6, P7, P8, P9, P10, P11, table   the figures, with 01's words for each
@@ -15,7 +15,7 @@ use mathlib.Core.Option.{Option, none, some}
 use Prim.Native.Nat.{ℕ, suc}
 use lib.ListN.{length}
 use Rattle.algebra.specs.Poly.{Poly, coef}
-use Rattle.algebra.specs.Orders.{Order, product}
+use Rattle.algebra.specs.Orders.{WithDegree, product}
 use Rattle.meaning.specs.Bytes.{times, bytes}
 use Rattle.meaning.specs.Stand.{Standing, proved, short, Outcome, IsStand, witnessRow}
 use Rattle.meaning.specs.Chain.{IsChain}
@@ -46,10 +46,10 @@ asked none x = none
 asked (some y) x = some x
 
 -- a polynomial with its degree, up to the leading 1
-unfoldable pub written : {p : ℕ} → Order p → List ℕ
+unfoldable pub written : {p : ℕ} → WithDegree p → List ℕ
 written o = bytes (suc (o .deg)) (coef (o .poly))
 
-unfoldable pub sheet : (g : Figure) → Outcome → Poly (g .p) → List (Order (g .p)) → Option ℕ → Sheet
+unfoldable pub sheet : (g : Figure) → Outcome → Poly (g .p) → List (WithDegree (g .p)) → Option ℕ → Sheet
 sheet g r f st t =
     record {
       standing = r .standing;
@@ -64,21 +64,21 @@ sheet g r f st t =
       period = asked (g .shows .period) t;
     }
 
-pub record Holds (g : Figure) : Type 0 where
+pub record FigureHolds (g : Figure) : Type 0 where
   pub outcome : Outcome
   pub poly : Poly (g .p)
-  pub stages : List (Order (g .p))
+  pub stages : List (WithDegree (g .p))
   pub period : Option ℕ
   pub stand-holds : IsStand (g .p) (g .n) (g .m) (g .cs) (g .a) outcome poly
   pub chain-holds : IsChain (g .p) (g .n) (g .m) (g .cs) stages
   pub period-holds : IsPeriod (g .p) (g .n) (g .m) period
-  pub only : (r : Outcome) (f : Poly (g .p)) (st : List (Order (g .p))) (t : Option ℕ)
+  pub only : (r : Outcome) (f : Poly (g .p)) (st : List (WithDegree (g .p))) (t : Option ℕ)
       → IsStand (g .p) (g .n) (g .m) (g .cs) (g .a) r f → IsChain (g .p) (g .n) (g .m) (g .cs) st → IsPeriod (g .p) (g .n) (g .m) t
       → sheet g r f st t ≡ g .shows
 
 abbrev pub AllHold : List Figure → Type 0
 AllHold [] = Unit {0}
-AllHold (g ∷ gs) = Holds g × AllHold gs
+AllHold (g ∷ gs) = FigureHolds g × AllHold gs
 
 abbrev pub figure : ℕ → ℕ → List ℕ → List ℕ → ℕ → Sheet → Figure
 figure p n m cs a s = record { p = p; n = n; m = m; cs = cs; a = a; shows = s }

@@ -1,6 +1,6 @@
 pub mod Run
 pub mod Figures
-pub mod Witness
 pub mod Additions
 pub mod CallRun
 pub mod Sheet
+pub mod Wrong

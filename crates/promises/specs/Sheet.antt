@@ -17,7 +17,7 @@ use Rattle.meaning.specs.Polynomial.{IsMinimal}
 use Rattle.meaning.specs.Case.{Case, matrixBytes, candidateBytes, allowanceOf}
 use Rattle.meaning.specs.Line.{Line}
 use Rattle.meaning.specs.Sheet.{SheetLines}
-use Rattle.promises.specs.Witness.{FirstUnsent}
+use Rattle.meaning.specs.Stand.{FirstUnsent}
 
 abbrev pub LinesOf : Case → List Line → Type 0
 LinesOf c = SheetLines (c .p) (c .n) (matrixBytes c) (candidateBytes c) (allowanceOf c)

@@ -1,6 +1,7 @@
 -- What a step answers.
 --   record-long      a record has at least two bytes
---   Standing, next-standing   a next record, by the machine
+--   StandsAt, next-standing   a next record, by the machine
+--   head-fits        the first of records that lead on from a state may come there
 --   next-within      the next record lies within the bytes
 --   next-peeked      it is what the state and the bytes say
 --   next-same, next-ended   there is one next record, and none at the end
@@ -46,7 +47,7 @@ record-long (candidate l) = omega arith
 record-long end = omega arith
 
 -- a next record, by the machine
-pub record Standing (s : List ℕ) (at : ℕ) (x : Record) : Type 0 where
+pub record StandsAt (s : List ℕ) (at : ℕ) (x : Record) : Type 0 where
   pub state : State
   pub behind : State
   pub comes : run Start (take at s) ≡ state
@@ -70,7 +71,7 @@ next-within {s} {at} {x} N =
     let size : length (take (at + w) s) ≡ at + w = ap length (N .holds) ∙ length-append (flat (N .passed)) (recordBytes x) ∙ ap (λ j. j + w) (sym (N .begins)) in
     omega (arith, length-take (at + w) s)
 
-pub next-standing : {s : List ℕ} {at : ℕ} {x : Record} → NextRecord s at x → Standing s at x
+pub next-standing : {s : List ℕ} {at : ℕ} {x : Record} → NextRecord s at x → StandsAt s at x
 next-standing {s} {at} {x} N =
     let w : ℕ = length (recordBytes x) in
     let f = case-fits (N .case) (N .well-formed) (N .passed) (N .to-come) x (N .listed) in

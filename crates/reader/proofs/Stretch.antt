@@ -1,7 +1,8 @@
 -- The entries of a step.
 --   none-stretch     no bytes are a stretch anywhere
 --   row-entries, candidate-entries   those of an R or a C record are the stretch behind its mark
---   no-entries       any other step has none
+--   notMarked        the tags of all other steps
+--   no-entries       these have none
 -- Assumes nothing.
 use mathlib.Core.Path.{_≡_, refl, sym, ap, subst, _∙_}
 use mathlib.Core.List.{List, [], _∷_}

@@ -7,7 +7,7 @@ use lib.ListN.{length, getD}
 use lib.Dec.{ltb, eqb}
 use Rattle.scan.specs.declared.State.{State}
 use Rattle.scan.specs.declared.State.the-variants.{Start, Opening, Modulus, Size, Body, Letter, Entries, Over, Dead}
-use Rattle.scan.specs.Machine.{pick}
+use Rattle.algebra.specs.Field.{pick}
 use Rattle.reader.specs.declared.Step.the-variants as step
 use Rattle.reader.specs.declared.Ahead.{Ahead}
 use Rattle.reader.specs.declared.Ahead.the-variants as ahead

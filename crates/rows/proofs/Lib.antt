@@ -1,4 +1,3 @@
 pub mod Loops
 pub mod Laws
 pub mod FirstBad
-pub mod Powers

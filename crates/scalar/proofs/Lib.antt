@@ -1,3 +1,5 @@
 pub mod Laws
+pub mod Inverses
+pub mod InverseSteps
 pub mod Prime
 pub mod LowWord

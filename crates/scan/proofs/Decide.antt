@@ -1,5 +1,6 @@
 -- The machine decides.
 --   dead-or, over-or   a state is Dead or not, and Over or not
+--   Scan s from to   how far a scan of s from `from` towards `to` gets, and in which state
 --   scan-exists      from a state on to any offset there is a scan
 --   case-or-place    any bytes are a well-formed case, or are none and have a place
 -- Assumes nothing.

@@ -4,7 +4,9 @@
 --   takes-append, takes-split   lists of records one after another
 --   fits-viable, takes-viable   viable states lead to viable states
 --   fits-run, fits-comes, takes-run, takes-end   the bytes of records lead where the records do
---   case-takes, takes-case   a well-formed case is a list of records that leads from Start to Over, and no other list does; `CaseOf` is such a case
+--   last c           what the machine keeps behind the whole case c
+--   CaseOf xs        a well-formed case whose records are xs
+--   case-takes, takes-case   a well-formed case is a list of records that leads from Start to Over, and no other list does
 --   over-takes       no record comes behind E
 --   Whole q          no record is under way
 --   fits-whole       no record is under way in front of a record and behind it
@@ -32,7 +34,8 @@ use Rattle.meaning.proofs.Bytes.{zeros-small}
 use Rattle.scan.specs.declared.Head.{Head}
 use Rattle.scan.specs.declared.State.{State}
 use Rattle.scan.specs.declared.State.the-variants.{Start, Opening, Modulus, Size, Body, Letter, Entries, Over, Dead}
-use Rattle.scan.specs.Machine.{pick, only, begun, stale, opened, sized, letter, entered, after, run, Ranged, Viable}
+use Rattle.algebra.specs.Field.{pick}
+use Rattle.scan.specs.Machine.{only, begun, stale, opened, sized, letter, entered, after, run, Ranged, Viable}
 use Rattle.scan.proofs.Run.{Alive, pick-each, prime-positive, run-dead, viable-after, entries-run}
 
 pub data Fits : State → Record → State → Type 0 where

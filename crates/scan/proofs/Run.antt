@@ -22,7 +22,8 @@ use Rattle.meaning.proofs.Refusal.{isPrime-prime}
 use Rattle.scan.specs.declared.Head.{Head}
 use Rattle.scan.specs.declared.State.{State}
 use Rattle.scan.specs.declared.State.the-variants.{Start, Opening, Modulus, Size, Body, Letter, Entries, Over, Dead}
-use Rattle.scan.specs.Machine.{pick, only, opened, sized, letter, entered, after, run, Ranged, Viable}
+use Rattle.algebra.specs.Field.{pick}
+use Rattle.scan.specs.Machine.{only, opened, sized, letter, entered, after, run, Ranged, Viable}
 
 abbrev pub Alive : State → Type 0
 Alive q = q ≡ Dead → ⊥

@@ -16,7 +16,8 @@ use Rattle.meaning.specs.Case.Record.{field, allow, row, candidate, end}
 use Rattle.scan.specs.declared.Head.{Head}
 use Rattle.scan.specs.declared.State.{State}
 use Rattle.scan.specs.declared.State.the-variants.{Start, Opening, Modulus, Size, Body, Letter, Entries, Over, Dead}
-use Rattle.scan.specs.Machine.{pick, run, Viable}
+use Rattle.algebra.specs.Field.{pick}
+use Rattle.scan.specs.Machine.{run, Viable}
 use Rattle.scan.proofs.Records.{Fits, Takes, fits-viable, fits-comes, takes-split, takes-end, over-takes, case-takes}
 use Rattle.scan.proofs.Records.Fits.{fits-field, fits-allow, fits-row, fits-candidate, fits-end}
 use Rattle.scan.proofs.Records.Takes.{stays, takes}

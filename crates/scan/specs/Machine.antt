@@ -1,6 +1,5 @@
 -- How the code goes over a case file: a machine on bytes, whose state is what the rest of the file depends on. Nobody need believe it: proofs/ shows that
 -- it finds what 01 asks for.
---   pick t a b       a where the test t passes, else b
 --   only t q         the state q where the test t passes, else Dead
 --   begun p n        what is kept right behind F
 --   stale h m        what is kept behind another record, at the count m: no A may come any more
@@ -19,15 +18,12 @@ use mathlib.Core.List.{List, [], _∷_}
 use Prim.Native.Nat.{ℕ, _+_, _-_, _<_, _≤_}
 use lib.ListN.{length, take}
 use lib.Dec.{leb, ltb, eqb}
+use Rattle.algebra.specs.Field.{pick}
 use Rattle.meaning.specs.Refusal.{isPrime}
 use Rattle.meaning.specs.Case.{Place}
 use Rattle.scan.specs.declared.Head.{Head}
 use Rattle.scan.specs.declared.State.{State}
 use Rattle.scan.specs.declared.State.the-variants.{Start, Opening, Modulus, Size, Body, Letter, Entries, Over, Dead}
-
-abbrev pub pick : {A : Type 0} → Bool → A → A → A
-pick true a b = a
-pick false a b = b
 
 abbrev pub only : Bool → State → State
 only t q = pick t q Dead

@@ -2,8 +2,9 @@
 --   written-front    the front of what a call wrote
 --   stages-read      the stages of a record, whatever stands behind it
 --   stood-given, chained-given, perioded-given   the lines of each answer that is a result
---   CaseLines        the lines read off all the answers are the sheet's, and there is room for them
---   case-lines       they are, where the values are sound
+--   caseLines        the lines read off all the answers
+--   CaseLines        they are the sheet's, and there is room for them
+--   case-lines       so it is, where the values are sound
 -- Assumes nothing.
 use mathlib.Core.Path.{_≡_, refl, sym, ap, ap₂, _∙_, subst}
 use mathlib.Core.List.{List, [], _∷_, _++_, map, append-assoc}
@@ -17,7 +18,7 @@ use lib.Seq.{take-append-le, take-at, drop-at}
 use Rattle.algebra.specs.Field.{Prime}
 use Rattle.algebra.specs.Row.{S}
 use Rattle.algebra.specs.Poly.{Poly, coef, act}
-use Rattle.algebra.specs.Orders.{Order, Stages, end, pass, stage, product}
+use Rattle.algebra.specs.Orders.{WithDegree, Stages, end, pass, stage, product}
 use Rattle.meaning.specs.Bytes.{times, e, bytes, write, padded}
 use Rattle.meaning.specs.Bounds.{Sound, SoundRows}
 use Rattle.meaning.specs.Stand.{Standing, proved, short, Outcome, witnessRow}
@@ -29,7 +30,7 @@ use Rattle.meaning.proofs.Bytes.{bytes-length, bytes-take, bytes-monic}
 use Rattle.meaning.proofs.Degrees.{stand-degree}
 use Rattle.meaning.proofs.Refusal.{sound-stand, sound-chain, sound-period}
 use Rattle.meaning.proofs.SheetRoom.{sheetLines-room}
-use Rattle.promises.proofs.Calls.{refused-given}
+use Rattle.meaning.proofs.Called.{refused-given}
 use Rattle.calls.specs.Answers.{stoodOf, chainedOf, periodedOf}
 use Rattle.calls.specs.declared.Counts.{Counts}
 use Rattle.calls.specs.declared.Stood.{Stood}
@@ -73,7 +74,7 @@ stood-given n X f (stood.Short c u) o poly image old q h a b =
 stood-given n X f (stood.Refused k) o poly image old q h a b = absurd (refused-given k o q)
 
 -- the stages of the record, whatever stands behind it
-stages-read : {p : ℕ} {X : S p → S p} → Prime p → (seen vs : List (S p)) (st : List (Order p)) → Stages X seen vs st → (rest : List ℕ)
+stages-read : {p : ℕ} {X : S p → S p} → Prime p → (seen vs : List (S p)) (st : List (WithDegree p)) → Stages X seen vs st → (rest : List ℕ)
     → (stageLinesIn (length st) (stageBytes st ++ rest) ≡ map stageLine st) × StagesIn (length st) (stageBytes st ++ rest)
 unfolding stageLinesIn StagesIn stageBytes
 stages-read P seen vs st end rest = (refl, tt)
@@ -91,7 +92,7 @@ stages-read P seen vs st (stage {s} {st = ss} h l A) rest =
       (omega (arith, ap length c, length-append b r, bytes-length (s .deg) (coef (s .poly))), subst (StagesIn (length ss)) (sym d) (i .1)),
     )
 
-chained-given : {p : ℕ} {X : S p → S p} → Prime p → (n : ℕ) (vs : List (S p)) (st : List (Order p)) (r : Chained) (prod record-bytes : List ℕ) (old : List ℕ × List ℕ) → chainedOf r ≡ given (length st)
+chained-given : {p : ℕ} {X : S p → S p} → Prime p → (n : ℕ) (vs : List (S p)) (st : List (WithDegree p)) (r : Chained) (prod record-bytes : List ℕ) (old : List ℕ × List ℕ) → chainedOf r ≡ given (length st)
     → Stages X [] vs st → prod ≡ write (bytes (suc n) (coef (product st))) (old .0) → record-bytes ≡ write (padded (2 * n) (stageBytes st)) (old .1)
     → (chainedLines n r prod record-bytes ≡ map stageLine st ++ (chainLine n st ∷ [])) × ChainedFits n r prod record-bytes
 unfolding write padded

@@ -27,7 +27,7 @@ use Rattle.text.specs.declared.Text.{Text}
 use Rattle.text.specs.Text.{IsText}
 use Rattle.casefile.specs.declared.Reading.the-variants as answer
 use Rattle.casefile.specs.declared.Contents.{Contents}
-use Rattle.casefile.specs.Reading.{matrixRoom, candidateRoom, valuesOf, refusalOf, ReadIs, reads, refuses}
+use Rattle.casefile.specs.Reading.{matrixRoom, candidateRoom, valuesOf, readRefusal, ReadIs, reads, refuses}
 use Rattle.sheet.specs.Lines.{CaseText, FileText}
 
 pub record CaseRead (s : List ℕ) (p n a count : ℕ) (m cs : List ℕ) : Type 0 where
@@ -64,12 +64,12 @@ read-case {s} {r} {p} {n} {a} {count} (reads c i v f g) q =
       entries = mul-le-mul side side;
       rows = mul-le-mul few side;
     }
-read-case (refuses k none-is at v f g) q = absurd (Option·none-ne-some _ (sym (ap refusalOf q) ∙ v))
+read-case (refuses k none-is at v f g) q = absurd (Option·none-ne-some _ (sym (ap readRefusal q) ∙ v))
 
 pub read-refused : {s : List ℕ} {r : Contents} {k : ℕ} → ReadIs s r → r .answer ≡ answer.Refused k → ((c : Case) → ¬ IsCase s c) × Place s k
 read-refused (reads c i v f g) q = absurd (Option·none-ne-some _ (sym (ap valuesOf q) ∙ v))
 read-refused {s} {r} {k} (refuses j none-is at v f g) q =
-    let e = Option·some-injective (8, k) (8, j) (sym (ap refusalOf q) ∙ v) in
+    let e = Option·some-injective (8, k) (8, j) (sym (ap readRefusal q) ∙ v) in
     (none-is, subst (Place s) (sym (ap (λ x. x .1) e)) at)
 
 -- what holds of the case's values holds of those read

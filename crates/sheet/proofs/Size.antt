@@ -9,7 +9,7 @@ use lib.ListN.{length, length-append, drop}
 use Rattle.meaning.specs.Bytes.{write}
 use Rattle.meaning.specs.Calls.{given}
 use Rattle.meaning.specs.Sheet.{SheetCall}
-use Rattle.promises.proofs.Calls.{called-given}
+use Rattle.meaning.proofs.Called.{called-given}
 use Rattle.sheet.specs.Answers.{sheetedOf}
 use Rattle.sheet.specs.declared.Sheeted.{Sheeted}
 use Rattle.sheet.specs.declared.Sheeted.the-variants as sheeted

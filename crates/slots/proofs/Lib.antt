@@ -1,4 +1,5 @@
 pub mod Part
+pub mod Laid
 pub mod Kept
-pub mod Alike
+pub mod SameSlots
 pub mod Tick

@@ -1,1 +1,2 @@
 pub mod Spin
+pub mod Known

@@ -19,11 +19,11 @@ fn show(file: &[u8]) {
 }
 
 // The longest case has so many bytes.
-const LONGEST: usize = 12682;
+const LONGEST_CASE: usize = 12682;
 
 // One byte more is read, so that a byte behind the longest case is seen; whatever follows changes nothing (`file-front` of the crate `sheet`).
 fn main() {
-    let mut file = [0u8; LONGEST + 1];
+    let mut file = [0u8; LONGEST_CASE + 1];
     let got = input::read_all(STDIN_FILENO, &mut file);
     if !got.whole {
         os::fail(b"stand: standard input");

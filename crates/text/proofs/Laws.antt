@@ -8,6 +8,7 @@
 --   room-bytes      the code's room is that of a sheet
 --   byte-appended   a byte more
 --   word-appended   a word more, pasted behind
+--   paste-more      one byte more of the word
 --   number-one, number-more   the digits of a number below 10, and those of any other
 --   spaced-append, spaced-next, spaced-left   lists of numbers joined; the next numbers of a line, and of a list that is gone through
 -- Assumes nothing.

@@ -1,4 +1,4 @@
--- `calls::chain` meets its contract: where the refusal is none, the inputs are sound; the stages come from `linking`, and their product and their
+-- `calls::chain` meets its contract: where the refusal is none, the inputs are sound; the stages come from `stages`, and their product and their
 -- record are put to the front of their buffers. Assumes nothing.
 use mathlib.Core.Path.{_≡_, sym, _∙_}
 use mathlib.Core.Option.{none}

@@ -6,7 +6,7 @@ use borrow.Author.Needs.{needs}
 use Rattle.meaning.specs.Refusal.{inverseRefusal}
 use Rattle.meaning.proofs.Refusal.{inverse-sound}
 use Rattle.refusals.proofs.Laws.{some-number, none-number}
-use Rattle.calls.proofs.Laws.{refused-by, given-by, inverse-given}
+use Rattle.calls.proofs.Laws.{refused-by, given-by}
 use Rattle.calls.proofs.inverse.Statement.{statement}
 use Rattle.calls.proofs.inverse.Tie as tie
 
@@ -27,12 +27,12 @@ cast-inverse-2 : tie.Need-cast-inverse-2
 cast-inverse-2 c = omega (arith, inverse-sound _ _ (taken c))
 
 inverse-requires : tie.Need-inverse-requires
-inverse-requires c κs = inverse-sound _ _ (taken c) .2
+inverse-requires c κs =
+    let S = inverse-sound _ _ (taken c) in
+    (S .0, S .2)
 
 returns-2 : tie.Need-returns-2
-returns-2 c =
-    let S = inverse-sound _ _ (taken (c .before)) in
-    given-by (taken (c .before)) (inverse-given _ (S .0) (S .2) (c .inverse .ensures))
+returns-2 c = given-by (taken (c .before)) (c .inverse .ensures)
 
 pub inverse-spec : {M : Type 1} → statement M
 inverse-spec =

@@ -46,11 +46,11 @@ spin-requires c κs =
 
 -- the coefficients and the buffer have n + 1 places
 room : (c : tie.After-spin) → let x = start (c .before .before) .args in
-    (x .n + 1 ≤ 65) × (x .n + 1 ≤ length (c .spin .result .poly)) × (x .n + 1 ≤ length (x .out .now))
+    (x .n + 1 ≤ 65) × (x .n + 1 ≤ length (c .spin .result .c)) × (x .n + 1 ≤ length (x .out .now))
 room c =
     let S = order-sound _ _ _ _ _ (taken (c .before .before)) in
     let most = S .0 .size in
-    (omega arith, omega (arith, c .spin .ensures .places), S .3)
+    (omega arith, omega (arith, c .spin .ensures .good .places), S .3)
 
 add-count : tie.Need-add-count
 add-count c = omega (arith, room (c .before .before))
@@ -79,10 +79,10 @@ returns-2 c =
     (x .n)
     (x .m .now)
     (x .v .now)
-    (P .spin .result .poly)
+    (P .spin .result .c)
     (x .out .now)
     (spinned-order (P .spin .ensures))
-    (P .spin .ensures .small)
+    (P .spin .ensures .good .small)
     (room P .1)
     (c .before .before .put .ensures))
 

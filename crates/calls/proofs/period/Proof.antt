@@ -6,7 +6,7 @@ use borrow.Author.Needs.{needs}
 use Rattle.meaning.specs.Period.{IsPeriod}
 use Rattle.meaning.specs.Refusal.{periodRefusal}
 use Rattle.meaning.proofs.Refusal.{period-sound}
-use Rattle.power.specs.Square.{periodOf}
+use Rattle.period.specs.Returning.{returnsOf}
 use Rattle.refusals.proofs.Laws.{some-number, none-number}
 use Rattle.calls.proofs.Laws.{refused-by, given-by}
 use Rattle.calls.proofs.period.Statement.{statement}
@@ -45,7 +45,7 @@ returns-2 c =
     let x = start C .args in
     given-by
     (taken C)
-    (subst (λ s. IsPeriod (x .p) (x .n) (x .m .now) (periodOf s)) (c .before .t .given .1) (c .before .before .before .period .ensures))
+    (subst (λ s. IsPeriod (x .p) (x .n) (x .m .now) (returnsOf s)) (c .before .t .given .1) (c .before .before .before .period .ensures))
 
 returns-3 : tie.Need-returns-3
 returns-3 c =
@@ -53,7 +53,7 @@ returns-3 c =
     let x = start C .args in
     given-by
     (taken C)
-    (subst (λ s. IsPeriod (x .p) (x .n) (x .m .now) (periodOf s)) (c .enum-told .given .1) (c .before .before .period .ensures))
+    (subst (λ s. IsPeriod (x .p) (x .n) (x .m .now) (returnsOf s)) (c .enum-told .given .1) (c .before .before .period .ensures))
 
 pub period-spec : {M : Type 1} → statement M
 period-spec =

@@ -1,5 +1,5 @@
--- `calls::stand` meets its contract: where the refusal is none, the inputs are sound; the rows taken, their lcm and its test come from `taking`,
--- and the polynomial and the witness's image are put to the front of their buffers. Assumes nothing.
+-- `calls::stand` meets its contract: where the refusal is none, the inputs are sound; the rows taken and their lcm come from `taken`, its test from
+-- `witness`, and the polynomial and the witness's image are put to the front of their buffers. Assumes nothing.
 use mathlib.Core.Path.{_≡_, refl, sym, _∙_}
 use mathlib.Core.Option.{none}
 use Prim.Native.Nat.{ℕ, _+_, _≤_}
@@ -9,16 +9,15 @@ use lib.ListN.{length, take, length-take}
 use lib.Seq.{length-take-le}
 use Rattle.meaning.specs.Bytes.{times, rows}
 use Rattle.meaning.specs.Refusal.{standRefusal}
-use Rattle.meaning.specs.Stand.{Standing, proved, short}
+use Rattle.meaning.specs.Stand.{Standing, proved, short, standingOf}
 use Rattle.meaning.specs.Calls.{StandResult}
 use Rattle.meaning.proofs.Bytes.{rows-below}
 use Rattle.meaning.proofs.Degrees.{below-take}
 use Rattle.meaning.proofs.Refusal.{stand-sound}
-use Rattle.promises.specs.Run.{standingOf}
 use Rattle.poly.specs.Polynomial.{po}
-use Rattle.taking.specs.Taking.{Killing}
+use Rattle.witness.specs.Killing.{Killing}
 use Rattle.refusals.proofs.Laws.{some-number, none-number}
-use Rattle.calls.proofs.Laws.{refused-by, given-by, tested-within, standing-proved, standing-short, stand-written}
+use Rattle.calls.proofs.Laws.{refused-by, given-by, tested-within, standing-proved, standing-short, outcomeOf, stand-written}
 use Rattle.calls.proofs.stand.Statement.{statement}
 use Rattle.calls.proofs.stand.Tie as tie
 
@@ -149,37 +148,16 @@ written : (c : tie.After-put2) (s : Standing) (w : ℕ) →
     let x = start (passed-on T) .args in
     let g = T .take-rows .result in
     standingOf (W .witness .result) ≡ s → W .witness .result ≡ w
-    → StandResult (x .p) (x .n) (x .m .now) (x .cs .now) (x .allowance) (x .poly .now, x .image .now)
-    (record { standing = s; degree = g .poly .deg; taken = g .taken; spent = g .spent; witness = w }) (Q .put .last .1 .0, c .put2 .last .1 .0)
+    → StandResult (x .p) (x .n) (x .m .now) (x .cs .now) (x .allowance) (x .poly .now, x .image .now) (outcomeOf g s w)
+    (Q .put .last .1 .0, c .put2 .last .1 .0)
 written c s w e k =
     let Q = c .before .before .before .before .before in
     let R = Q .before .before .before .before in
     let W = witnessed c in
     let T = gathered W in
     let x = start (passed-on T) .args in
-    let G = T .take-rows .ensures .0 in
-    stand-written
-    (x .p)
-    (x .n)
-    (x .m .now)
-    (x .cs .now)
-    (x .allowance)
-    (T .take-rows .result .poly .c)
-    _
-    (x .poly .now, x .image .now)
-    (G .good .prime)
-    (G .front)
-    (G .spent)
-    (G .least)
-    (W .witness .result)
-    e
-    k
-    (W .witness .ensures)
-    (G .good .small)
-    (room R .1)
-    (Q .put .ensures)
-    (R .witness-row .ensures)
-    (c .put2 .ensures)
+    stand-written (W .witness .result) (x .poly .now, x .image .now) (T .take-rows .ensures .0) (W .witness .ensures) e k (room R .0)
+    (Q .put .ensures) (R .witness-row .ensures) (c .put2 .ensures)
 
 returns-2 : tie.Need-returns-2
 returns-2 c =

@@ -1,0 +1,6 @@
+pub mod Unique
+pub mod Runs
+pub mod Demands
+pub mod Sheet
+pub mod SheetOnce
+pub mod Listing

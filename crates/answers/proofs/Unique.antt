@@ -1,0 +1,119 @@
+-- One result for every input, of the code's own answers: an answer is known by what 01 calls it, so any two that a call's contract permits are the
+-- same, and so are the bytes that it leaves in the lent buffers.
+--   refused-only, given-only, refused-given   a refusal is known by its number, a result by what is given, and none is the other
+--   counts-path, given-counts   what a stand counts is known by its fields, also where it is given with a standing and a witness
+--   proved-short   the two standings differ
+--   inverted-only, ordered-only, imaged-only, stood-only, chained-only, perioded-only   answers with the same number or values are the same
+--   inverse-once, order-once, image-once, stand-once, chain-once, period-once   any two permitted answers and buffer contents are the same
+-- Assumes nothing.
+use mathlib.Core.Path.{_≡_, refl, sym, ap, ap₂, _∙_}
+use mathlib.Core.List.{List}
+use mathlib.Core.Option.{Option, none, some, Option·none-ne-some, Option·some-injective}
+use Prim.Native.Nat.{ℕ}
+use native.Mathlib.Omega.{arith}
+use Rattle.meaning.specs.Stand.{proved, short, Outcome}
+use Rattle.meaning.specs.Calls.{Answer, refused, given, InverseCall, OrderCall, ImageCall, StandCall, ChainCall, PeriodCall}
+use Rattle.meaning.proofs.Called.{refused-given}
+use Rattle.promises.proofs.Calls.{inverse-unique, order-unique, image-unique, stand-unique, chain-unique, period-unique}
+use Rattle.calls.specs.Answers.{invertedOf, orderedOf, imagedOf, stoodOf, chainedOf, periodedOf}
+use Rattle.calls.specs.declared.Counts.{Counts}
+use Rattle.calls.specs.declared.Inverted.{Inverted}
+use Rattle.calls.specs.declared.Inverted.the-variants as inverted
+use Rattle.calls.specs.declared.Ordered.{Ordered}
+use Rattle.calls.specs.declared.Ordered.the-variants as ordered
+use Rattle.calls.specs.declared.Imaged.{Imaged}
+use Rattle.calls.specs.declared.Imaged.the-variants as imaged
+use Rattle.calls.specs.declared.Stood.{Stood}
+use Rattle.calls.specs.declared.Stood.the-variants as stood
+use Rattle.calls.specs.declared.Chained.{Chained}
+use Rattle.calls.specs.declared.Chained.the-variants as chained
+use Rattle.calls.specs.declared.Perioded.{Perioded}
+use Rattle.calls.specs.declared.Perioded.the-variants as perioded
+
+refused-only : (A : Type 0) (k j : ℕ) → _≡_ {A = Answer A} (refused k) (refused j) → k ≡ j
+refused-only A k j e = cc
+
+pub given-only : {A : Type 0} (r s : A) → given r ≡ given s → r ≡ s
+given-only r s e = cc
+
+inverted-only : (r s : Inverted) → invertedOf r ≡ invertedOf s → r ≡ s
+inverted-only (inverted.Inverse a) (inverted.Inverse b) e = ap inverted.Inverse (given-only a b e)
+inverted-only (inverted.Inverse a) (inverted.Refused k) e = absurd (refused-given k a (sym e))
+inverted-only (inverted.Refused k) (inverted.Inverse b) e = absurd (refused-given k b e)
+inverted-only (inverted.Refused k) (inverted.Refused j) e = ap inverted.Refused (refused-only ℕ k j e)
+
+ordered-only : (r s : Ordered) → orderedOf r ≡ orderedOf s → r ≡ s
+ordered-only (ordered.Degree a) (ordered.Degree b) e = ap ordered.Degree (given-only a b e)
+ordered-only (ordered.Degree a) (ordered.Refused k) e = absurd (refused-given k a (sym e))
+ordered-only (ordered.Refused k) (ordered.Degree b) e = absurd (refused-given k b e)
+ordered-only (ordered.Refused k) (ordered.Refused j) e = ap ordered.Refused (refused-only ℕ k j e)
+
+imaged-only : (r s : Imaged) → imagedOf r ≡ imagedOf s → r ≡ s
+imaged-only imaged.Written imaged.Written e = refl
+imaged-only imaged.Written (imaged.Refused k) e = absurd (refused-given k tt (sym e))
+imaged-only (imaged.Refused k) imaged.Written e = absurd (refused-given k tt e)
+imaged-only (imaged.Refused k) (imaged.Refused j) e = ap imaged.Refused (refused-only (Unit {0}) k j e)
+
+counts-path : (c d : Counts) → c .degree ≡ d .degree → c .taken ≡ d .taken → c .spent ≡ d .spent → c ≡ d
+counts-path c d a b q = λ i. record { degree = a i; taken = b i; spent = q i }
+
+-- the same counts, where they are given with any standing and witness
+given-counts : (c d : Counts) (x y : Outcome) → c .degree ≡ x .degree → c .taken ≡ x .taken → c .spent ≡ x .spent → d .degree ≡ y .degree
+    → d .taken ≡ y .taken → d .spent ≡ y .spent → x ≡ y → c ≡ d
+given-counts c d x y a b q e f g z = counts-path c d (a ∙ ap (λ o. o .degree) z ∙ sym e) (b ∙ ap (λ o. o .taken) z ∙ sym f) (q ∙ ap (λ o. o .spent) z ∙ sym g)
+
+pub proved-short : ¬ (proved ≡ short)
+proved-short e = let z : _≡_ {A = ℕ} 0 1 = cc in omega arith
+
+pub stood-only : (r s : Stood) → stoodOf r ≡ stoodOf s → r ≡ s
+stood-only (stood.Proved c) (stood.Proved d) e = ap stood.Proved (given-counts c d _ _ refl refl refl refl refl refl (given-only _ _ e))
+stood-only (stood.Proved c) (stood.Short d w) e = absurd (proved-short (ap (λ o. o .standing) (given-only _ _ e)))
+stood-only (stood.Proved c) (stood.Refused k) e = absurd (refused-given k _ (sym e))
+stood-only (stood.Short c w) (stood.Proved d) e = absurd (proved-short (sym (ap (λ o. o .standing) (given-only _ _ e))))
+stood-only (stood.Short c w) (stood.Short d u) e =
+    let z = given-only _ _ e in
+    ap₂ stood.Short (given-counts c d _ _ refl refl refl refl refl refl z) (ap (λ o. o .witness) z)
+stood-only (stood.Short c w) (stood.Refused k) e = absurd (refused-given k _ (sym e))
+stood-only (stood.Refused k) (stood.Proved d) e = absurd (refused-given k _ e)
+stood-only (stood.Refused k) (stood.Short d u) e = absurd (refused-given k _ e)
+stood-only (stood.Refused k) (stood.Refused j) e = ap stood.Refused (refused-only Outcome k j e)
+
+chained-only : (r s : Chained) → chainedOf r ≡ chainedOf s → r ≡ s
+chained-only (chained.Stages a) (chained.Stages b) e = ap chained.Stages (given-only a b e)
+chained-only (chained.Stages a) (chained.Refused k) e = absurd (refused-given k a (sym e))
+chained-only (chained.Refused k) (chained.Stages b) e = absurd (refused-given k b e)
+chained-only (chained.Refused k) (chained.Refused j) e = ap chained.Refused (refused-only ℕ k j e)
+
+perioded-only : (r s : Perioded) → periodedOf r ≡ periodedOf s → r ≡ s
+perioded-only (perioded.Least a) (perioded.Least b) e = ap perioded.Least (Option·some-injective _ _ (given-only (some a) (some b) e))
+perioded-only (perioded.Least a) perioded.Never e = absurd (Option·none-ne-some a (sym (given-only (some a) none e)))
+perioded-only (perioded.Least a) (perioded.Refused k) e = absurd (refused-given k (some a) (sym e))
+perioded-only perioded.Never (perioded.Least b) e = absurd (Option·none-ne-some b (given-only none (some b) e))
+perioded-only perioded.Never perioded.Never e = refl
+perioded-only perioded.Never (perioded.Refused k) e = absurd (refused-given k none (sym e))
+perioded-only (perioded.Refused k) (perioded.Least b) e = absurd (refused-given k (some b) e)
+perioded-only (perioded.Refused k) perioded.Never e = absurd (refused-given k none e)
+perioded-only (perioded.Refused k) (perioded.Refused j) e = ap perioded.Refused (refused-only (Option ℕ) k j e)
+
+-- the calls
+pub inverse-once : (p a : ℕ) (r s : Inverted) → InverseCall p a (invertedOf r) → InverseCall p a (invertedOf s) → r ≡ s
+inverse-once p a r s A B = inverted-only r s (inverse-unique p a _ _ A B)
+
+pub order-once : (p n : ℕ) (m v old : List ℕ) (r s : Ordered) (x y : List ℕ) → OrderCall p n m v old (orderedOf r) x → OrderCall p n m v old (orderedOf s) y
+    → (r ≡ s) × (x ≡ y)
+order-once p n m v old r s x y A B = let (e, f) = order-unique p n m v old _ _ x y A B in (ordered-only r s e, f)
+
+pub image-once : (p n : ℕ) (m v f old : List ℕ) (r s : Imaged) (x y : List ℕ) → ImageCall p n m v f old (imagedOf r) x
+    → ImageCall p n m v f old (imagedOf s) y → (r ≡ s) × (x ≡ y)
+image-once p n m v f old r s x y A B = let (e, d) = image-unique p n m v f old _ _ x y A B in (imaged-only r s e, d)
+
+pub stand-once : (p n : ℕ) (m cs : List ℕ) (a : ℕ) (old : List ℕ × List ℕ) (r s : Stood) (x y : List ℕ × List ℕ) → StandCall p n m cs a old (stoodOf r) x
+    → StandCall p n m cs a old (stoodOf s) y → (r ≡ s) × (x ≡ y)
+stand-once p n m cs a old r s x y A B = let (e, f) = stand-unique p n m cs a old _ _ x y A B in (stood-only r s e, f)
+
+pub chain-once : (p n : ℕ) (m cs : List ℕ) (old : List ℕ × List ℕ) (r s : Chained) (x y : List ℕ × List ℕ) → ChainCall p n m cs old (chainedOf r) x
+    → ChainCall p n m cs old (chainedOf s) y → (r ≡ s) × (x ≡ y)
+chain-once p n m cs old r s x y A B = let (e, f) = chain-unique p n m cs old _ _ x y A B in (chained-only r s e, f)
+
+pub period-once : (p n : ℕ) (m : List ℕ) (r s : Perioded) → PeriodCall p n m (periodedOf r) → PeriodCall p n m (periodedOf s) → r ≡ s
+period-once p n m r s A B = perioded-only r s (period-unique p n m _ _ A B)

@@ -1,0 +1,56 @@
+-- A call's answer is a refusal or a result, and says which (01: "A refusal returns its number alone, and no lent byte changes").
+--   refused-given     a refusal is no result
+--   called-refused    a refusal is the number that the table gives, and nothing lent has changed
+--   called-given      a result is given where no number of the table applies
+--   called-exists     a call has an answer where it has a result whenever nothing is refused
+--   called-unique     and one answer and one content of the buffers where its results are unique
+-- Assumes nothing.
+use mathlib.Core.Path.{_≡_, refl, sym, ap, _∙_, subst}
+use mathlib.Core.Option.{Option, none, some, Option·none-ne-some}
+use Prim.Native.Nat.{ℕ}
+use native.Mathlib.Omega.{arith}
+use Rattle.meaning.specs.Calls.{Answer, refused, given, Called}
+
+pub refused-given : {A : Type 0} (k : ℕ) (r : A) → ¬ (refused k ≡ given r)
+refused-given k r e = let z : _≡_ {A = ℕ} 0 1 = cc in omega arith
+
+-- a refusal: the number that the table gives, and nothing lent has changed
+pub called-refused : {A B : Type 0} {R : A → B → Type 0} {q : Option ℕ} {old new : B} {k : ℕ} → Called q R old (refused k) new → (q ≡ some k) × (new ≡ old)
+called-refused {q = q} {old = old} {new = new} {k = k} h = go q refl
+  where
+    go : (o : Option ℕ) → q ≡ o → (q ≡ some k) × (new ≡ old)
+    go none e = let r = h .result e in absurd (refused-given k (r .0) (r .1))
+    go (some j) e = let r = h .refusal j e in (cc, r .1)
+
+-- a result: no number of the table applies
+pub called-given : {A B : Type 0} {R : A → B → Type 0} {q : Option ℕ} {old new : B} {r : A} → Called q R old (given r) new → (q ≡ none) × R r new
+called-given {R = R} {q = q} {new = new} {r = r} h = go q refl
+  where
+    go : (o : Option ℕ) → q ≡ o → (q ≡ none) × R r new
+    go none e =
+        let s = h .result e in
+        let d : s .0 ≡ r = cc in
+        (e, subst (λ t. R t new) d (s .2))
+    go (some j) e = absurd (refused-given j r (sym (h .refusal j e .0)))
+
+-- a call has a result where its results exist when nothing is refused
+unfoldable pub called-exists : {A B : Type 0} {R : A → B → Type 0} (q : Option ℕ) (old : B) → (q ≡ none → (r : A) × (new : B) × R r new)
+    → (answer : Answer A) × (new : B) × Called q R old answer new
+called-exists none old h =
+    let r = h refl in
+    (given (r .0), r .1, record { refusal = λ k e. absurd (Option·none-ne-some k e); result = λ e. (r .0, refl, r .2) })
+called-exists (some j) old h =
+    (refused j, old, record { refusal = λ k e. (cc, refl); result = λ e. absurd (Option·none-ne-some j (sym e)) })
+
+-- and one result where its results are unique when nothing is refused
+pub called-unique : {A B : Type 0} {R : A → B → Type 0} (q : Option ℕ) (old : B) → (q ≡ none → (r s : A) (x y : B) → R r x → R s y → (r ≡ s) × (x ≡ y))
+    → (a b : Answer A) (x y : B) → Called q R old a x → Called q R old b y → (a ≡ b) × (x ≡ y)
+called-unique none old h a b x y A B =
+    let r = A .result refl in
+    let s = B .result refl in
+    let d = h refl (r .0) (s .0) x y (r .2) (s .2) in
+    (r .1 ∙ ap given (d .0) ∙ sym (s .1), d .1)
+called-unique (some k) old h a b x y A B =
+    let r = A .refusal k refl in
+    let s = B .refusal k refl in
+    (r .0 ∙ sym (s .0), r .1 ∙ sym (s .1))

@@ -1,0 +1,571 @@
+-- Wrong answers that the contracts shut out (01, "Shortcuts that look right" and "How tight each contract is to be"), as one table: for each
+-- input the right answer, and wrong ones, each in words. Where the words name one byte or one number, all else in that answer is right.
+--   Reply          a call with its input and what its lent buffers hold before; then, as one tuple, what is answered and what they hold afterwards
+--   Permitted r    the contract of the call permits that reply
+--   ShutOut ws     it permits none of the replies ws
+--   Trial          an input, with the right reply and wrong ones
+--   AllShut ts     in every trial the right reply is permitted, and no wrong one is
+--   tried call r ws   the trial of a call with its input: the right answer r, and the wrong answers ws
+--   sevens k       k lent bytes, 7 each, so that a byte that is left as it was is seen
+--   proving d t k, lacking d t k w   a stand's outcome: proved, or short with the witness w; degree d, taken t, spent k
+--   numbered s ks  the wrong answers "refused" with each of the numbers ks, for the reason s
+--   numberedOne s b ks, numberedTwo s b c ks   the same of a call with one buffer or two, which it leaves as they were
+--   orderOn g v, imageOn g v f, standOn g, chainOn g, periodOn g   a call on the matrix, or the whole input, of the figure g;
+--                  each buffer has one byte more than 01 asks
+--   orderLeft, imageLeft, standLeft, chainLeft   a call with its answer, the buffers left as they were
+--   wrongInverses, wrongOrders, wrongImages, wrongStands, wrongChains, wrongPeriods, wrongAnswers   the table, call by call
+-- Assumes nothing.
+use mathlib.Core.List.{List, [], _∷_, _++_, map}
+use mathlib.Core.Option.{Option, none, some}
+use Prim.Native.Nat.{ℕ, _+_, _*_}
+use Prim.Native.String.{String}
+use lib.ListN.{replicate}
+use Rattle.meaning.specs.Stand.{proved, short, Outcome}
+use Rattle.meaning.specs.Calls.{Answer, refused, given, InverseCall, OrderCall, ImageCall, StandCall, ChainCall, PeriodCall}
+use Rattle.promises.specs.Figures.{Figure, P1, P2, P3, P4, P5, P6, P7, P8, P9, P10, P11}
+
+pub data Reply : Type 0 where
+  inverse-reply : (p a : ℕ) → Answer ℕ → Reply
+  order-reply : (p n : ℕ) (m v out : List ℕ) → Answer ℕ × List ℕ → Reply
+  image-reply : (p n : ℕ) (m v f out : List ℕ) → Answer (Unit {0}) × List ℕ → Reply
+  stand-reply : (p n : ℕ) (m cs : List ℕ) (a : ℕ) (poly image : List ℕ) → Answer Outcome × List ℕ × List ℕ → Reply
+  chain-reply : (p n : ℕ) (m cs product stages : List ℕ) → Answer ℕ × List ℕ × List ℕ → Reply
+  period-reply : (p n : ℕ) (m : List ℕ) → Answer (Option ℕ) → Reply
+
+abbrev pub Permitted : Reply → Type 0
+Permitted (inverse-reply p a x) = InverseCall p a x
+Permitted (order-reply p n m v out x) = OrderCall p n m v out (x .0) (x .1)
+Permitted (image-reply p n m v f out x) = ImageCall p n m v f out (x .0) (x .1)
+Permitted (stand-reply p n m cs a poly image x) = StandCall p n m cs a (poly, image) (x .0) (x .1, x .2)
+Permitted (chain-reply p n m cs product stages x) = ChainCall p n m cs (product, stages) (x .0) (x .1, x .2)
+Permitted (period-reply p n m x) = PeriodCall p n m x
+
+abbrev pub ShutOut : List (String × Reply) → Type 0
+ShutOut [] = Unit {0}
+ShutOut (w ∷ ws) = (¬ Permitted (w .1)) × ShutOut ws
+
+pub record Trial : Type 0 where
+  pub right : Reply
+  pub wrong : List (String × Reply)
+
+abbrev pub AllShut : List Trial → Type 0
+AllShut [] = Unit {0}
+AllShut (t ∷ ts) = (Permitted (t .right) × ShutOut (t .wrong)) × AllShut ts
+
+abbrev pub tried : {X : Type 0} → (X → Reply) → X → List (String × X) → Trial
+tried call r ws = record { right = call r; wrong = map (λ w. (w .0, call (w .1))) ws }
+
+abbrev pub sevens : ℕ → List ℕ
+sevens k = replicate k 7
+
+abbrev pub proving : ℕ → ℕ → ℕ → Answer Outcome
+proving d t k = given (record { standing = proved; degree = d; taken = t; spent = k; witness = 0 })
+
+abbrev pub lacking : ℕ → ℕ → ℕ → ℕ → Answer Outcome
+lacking d t k w = given (record { standing = short; degree = d; taken = t; spent = k; witness = w })
+
+abbrev pub numbered : {A : Type 0} → String → List ℕ → List (String × Answer A)
+numbered s ks = map (λ k. (s, refused k)) ks
+
+abbrev pub numberedOne : {A : Type 0} → String → List ℕ → List ℕ → List (String × (Answer A × List ℕ))
+numberedOne s b ks = map (λ k. (s, (refused k, b))) ks
+
+abbrev pub numberedTwo : {A : Type 0} → String → List ℕ → List ℕ → List ℕ → List (String × (Answer A × List ℕ × List ℕ))
+numberedTwo s b c ks = map (λ k. (s, (refused k, b, c))) ks
+
+abbrev pub orderOn : Figure → List ℕ → Answer ℕ × List ℕ → Reply
+orderOn g v = order-reply (g .p) (g .n) (g .m) v (sevens (g .n + 2))
+
+abbrev pub imageOn : Figure → List ℕ → List ℕ → Answer (Unit {0}) × List ℕ → Reply
+imageOn g v f = image-reply (g .p) (g .n) (g .m) v f (sevens (g .n + 1))
+
+abbrev pub standOn : Figure → Answer Outcome × List ℕ × List ℕ → Reply
+standOn g = stand-reply (g .p) (g .n) (g .m) (g .cs) (g .a) (sevens (g .n + 2)) (sevens (g .n + 1))
+
+abbrev pub chainOn : Figure → Answer ℕ × List ℕ × List ℕ → Reply
+chainOn g = chain-reply (g .p) (g .n) (g .m) (g .cs) (sevens (g .n + 2)) (sevens (2 * g .n + 1))
+
+abbrev pub periodOn : Figure → Answer (Option ℕ) → Reply
+periodOn g = period-reply (g .p) (g .n) (g .m)
+
+abbrev pub orderLeft : ℕ → ℕ → List ℕ → List ℕ → List ℕ → Answer ℕ → Reply
+orderLeft p n m v out x = order-reply p n m v out (x, out)
+
+abbrev pub imageLeft : ℕ → ℕ → List ℕ → List ℕ → List ℕ → List ℕ → Answer (Unit {0}) → Reply
+imageLeft p n m v f out x = image-reply p n m v f out (x, out)
+
+abbrev pub standLeft : ℕ → ℕ → List ℕ → List ℕ → List ℕ → List ℕ → Answer Outcome → Reply
+standLeft p n m cs poly image x = stand-reply p n m cs 9 poly image (x, poly, image)
+
+abbrev pub chainLeft : ℕ → ℕ → List ℕ → List ℕ → List ℕ → List ℕ → Answer ℕ → Reply
+chainLeft p n m cs product stages x = chain-reply p n m cs product stages (x, product, stages)
+
+unfoldable pub wrongInverses : List Trial
+wrongInverses =
+    -- 3·5 = 15 = 1 modulo 7
+    tried (inverse-reply 7 3) (given 5)
+    (("0 for a scalar that has an inverse", given 0)
+    ∷ ("another number", given 4)
+    ∷ ("the opposite: a sign lost in the divisions", given 2)
+    ∷ ("the scalar itself", given 3)
+    ∷ ("not reduced modulo p", given 12)
+    ∷ numbered "refused, and nothing is wrong" (0 ∷ 1 ∷ 2 ∷ 3 ∷ 4 ∷ 5 ∷ 6 ∷ 7 ∷ 8 ∷ []))
+    -- the inverse of 0 is given as 0
+    ∷ tried (inverse-reply 5 0) (given 0)
+    (("1 for 0", given 1) ∷ ("p for 0", given 5) ∷ ("0 refused as having no inverse", refused 5) ∷ [])
+    -- the edges of p: 2 and 251 are taken; 253 is 11·23
+    ∷ tried (inverse-reply 2 1) (given 1) (("2 refused", refused 1) ∷ [])
+    ∷ tried (inverse-reply 251 250) (given 250) (("251 refused", refused 1) ∷ [])
+    ∷ tried (inverse-reply 0 0) (refused 1) (("p = 0 answered", given 0) ∷ ("test 5 before test 1", refused 5) ∷ [])
+    ∷ tried (inverse-reply 1 0) (refused 1) (("p = 1 answered", given 0) ∷ [])
+    ∷ tried (inverse-reply 4 3) (refused 1) (("p = 4 answered", given 3) ∷ [])
+    ∷ tried (inverse-reply 253 2) (refused 1) (("p = 253 answered", given 127) ∷ [])
+    ∷ tried (inverse-reply 257 2) (refused 1) (("a prime over 251 answered", given 129) ∷ [])
+    ∷ tried (inverse-reply 258 1) (refused 1) (("p = 258 cut to a byte and answered as 2", given 1) ∷ [])
+    -- scalars of p and more
+    ∷ tried (inverse-reply 4 4) (refused 1) (("test 5 before test 1", refused 5) ∷ ("p taken for 0", given 0) ∷ [])
+    ∷ tried (inverse-reply 5 5) (refused 5) (("p taken for 0", given 0) ∷ ("another number", refused 1) ∷ [])
+    ∷ tried (inverse-reply 5 7) (refused 5) (("the scalar reduced first", given 3) ∷ [])
+    ∷ tried (inverse-reply 5 258) (refused 5) (("the scalar cut to a byte", given 3) ∷ [])
+    ∷ []
+
+unfoldable pub wrongOrders : List Trial
+wrongOrders =
+    -- [1 0 | 0 2] modulo 3: (1,0) has the order x − 1
+    tried (orderOn P7 (1 ∷ 0 ∷ [])) (given 1, 2 ∷ 1 ∷ 0 ∷ 7 ∷ [])
+    (("always 1", (given 0, 1 ∷ 0 ∷ 0 ∷ 7 ∷ []))
+    ∷ ("nothing written", (given 1, sevens 4))
+    ∷ ("bytes above the degree left as they were", (given 1, 2 ∷ 1 ∷ 7 ∷ 7 ∷ []))
+    ∷ ("a byte beyond n + 1 changed", (given 1, 2 ∷ 1 ∷ 0 ∷ 0 ∷ []))
+    ∷ ("the bytes beyond n + 1 gone", (given 1, 2 ∷ 1 ∷ 0 ∷ []))
+    ∷ ("without the leading 1", (given 1, 2 ∷ 0 ∷ 0 ∷ 7 ∷ []))
+    ∷ ("not monic", (given 1, 1 ∷ 2 ∷ 0 ∷ 7 ∷ []))
+    ∷ ("a sign lost: v·M = v gives x + 1", (given 1, 1 ∷ 1 ∷ 0 ∷ 7 ∷ []))
+    ∷ ("not of least degree: the minimal polynomial", (given 2, 2 ∷ 0 ∷ 1 ∷ 7 ∷ []))
+    ∷ ("not of least degree: x times the order", (given 2, 0 ∷ 2 ∷ 1 ∷ 7 ∷ []))
+    ∷ ("a kept row added and not taken away, so that no dependence is found", (given 3, 0 ∷ 0 ∷ 0 ∷ 7 ∷ []))
+    ∷ ("the number of coefficients for the degree", (given 2, 2 ∷ 1 ∷ 0 ∷ 7 ∷ []))
+    ∷ ("the degree one too low", (given 0, 2 ∷ 1 ∷ 0 ∷ 7 ∷ []))
+    ∷ numberedOne "refused, and nothing is wrong" (sevens 4) (0 ∷ 1 ∷ 2 ∷ 3 ∷ 4 ∷ 5 ∷ 6 ∷ 7 ∷ 8 ∷ []))
+    -- (1,1) has (x − 1)(x − 2)
+    ∷ tried (orderOn P7 (1 ∷ 1 ∷ [])) (given 2, 2 ∷ 0 ∷ 1 ∷ 7 ∷ [])
+    (("n coefficients written, not n + 1", (given 2, 2 ∷ 0 ∷ 7 ∷ 7 ∷ []))
+    ∷ ("the order of the row's first entry alone", (given 1, 2 ∷ 1 ∷ 0 ∷ 7 ∷ []))
+    ∷ [])
+    -- the zero row has order 1
+    ∷ tried (orderOn P7 (0 ∷ 0 ∷ [])) (given 0, 1 ∷ 0 ∷ 0 ∷ 7 ∷ [])
+    (("x for the zero row", (given 1, 0 ∷ 1 ∷ 0 ∷ 7 ∷ []))
+    ∷ ("0 for the zero row", (given 0, 0 ∷ 0 ∷ 0 ∷ 7 ∷ []))
+    ∷ numberedOne "the zero row refused" (sevens 4) (4 ∷ 5 ∷ []))
+    -- [0 1 | 2 0] modulo 3: a row that does not begin with 1
+    ∷ tried (orderOn P5 (2 ∷ 0 ∷ [])) (given 2, 1 ∷ 0 ∷ 1 ∷ 7 ∷ [])
+    (("a kept row not divided by its leading entry, so that no dependence is found", (given 3, 0 ∷ 0 ∷ 0 ∷ 7 ∷ [])) ∷ [])
+    -- "Columns for rows"; "giving relative orders where orders are due": that of (1,0) over (0,1), as if a row spun before were still kept
+    ∷ tried (orderOn P10 (0 ∷ 1 ∷ [])) (given 1, 0 ∷ 1 ∷ 0 ∷ 7 ∷ []) (("columns for rows", (given 2, 0 ∷ 0 ∷ 1 ∷ 7 ∷ [])) ∷ [])
+    ∷ tried (orderOn P10 (1 ∷ 0 ∷ [])) (given 2, 0 ∷ 0 ∷ 1 ∷ 7 ∷ [])
+    (("columns for rows; or a relative order for the order", (given 1, 0 ∷ 1 ∷ 0 ∷ 7 ∷ [])) ∷ [])
+    -- the edges of n: 64 is taken, 65 and 0 are not
+    ∷ tried (order-reply 2 64 (replicate 4096 0) (replicate 64 0) (sevens 65)) (given 0, 1 ∷ replicate 64 0)
+    (numberedOne "n = 64 refused" (sevens 65) (2 ∷ []))
+    ∷ tried (order-reply 2 65 (replicate 4225 0) (replicate 65 0) (sevens 66)) (refused 2, sevens 66)
+    (("n = 65 answered", (given 0, 1 ∷ replicate 65 0)) ∷ [])
+    ∷ tried (order-reply 2 0 [] [] (sevens 1)) (refused 2, sevens 1) (("n = 0 answered", (given 0, 1 ∷ [])) ∷ [])
+    ∷ tried (order-reply 2 257 (1 ∷ []) (1 ∷ []) (sevens 2)) (refused 2, sevens 2)
+    (("n = 257 cut to a byte and answered as 1", (given 1, 1 ∷ 1 ∷ [])) ∷ [])
+    ∷ tried (order-reply 258 1 (1 ∷ []) (1 ∷ []) (sevens 2)) (refused 1, sevens 2)
+    (("p = 258 cut to a byte and answered as 2", (given 1, 1 ∷ 1 ∷ [])) ∷ [])
+    -- what is too long or too short is refused, and no lent byte changes
+    ∷ tried (order-reply 3 2 (1 ∷ 0 ∷ 0 ∷ []) (1 ∷ 0 ∷ []) (sevens 4)) (refused 3, sevens 4)
+    (("the matrix filled up with zeros", (given 1, 2 ∷ 1 ∷ 0 ∷ 7 ∷ [])) ∷ [])
+    ∷ tried (order-reply 3 2 (1 ∷ 0 ∷ 0 ∷ 2 ∷ []) (1 ∷ 0 ∷ 0 ∷ []) (sevens 4)) (refused 4, sevens 4)
+    (("the first n bytes taken for the vector", (given 1, 2 ∷ 1 ∷ 0 ∷ 7 ∷ []))
+    ∷ ("the first lent byte changed by a refused call", (refused 4, 0 ∷ 7 ∷ 7 ∷ 7 ∷ []))
+    ∷ ("a lent byte beyond n + 1 changed by a refused call", (refused 4, 7 ∷ 7 ∷ 7 ∷ 0 ∷ []))
+    ∷ ("the lent bytes gone after a refused call", (refused 4, []))
+    ∷ [])
+    ∷ tried (order-reply 3 2 (1 ∷ 0 ∷ 0 ∷ 3 ∷ []) (1 ∷ 0 ∷ []) (sevens 4)) (refused 5, sevens 4)
+    (("an entry p of the matrix taken for 0", (given 1, 2 ∷ 1 ∷ 0 ∷ 7 ∷ [])) ∷ [])
+    ∷ tried (order-reply 3 2 (1 ∷ 0 ∷ 0 ∷ 2 ∷ []) (1 ∷ 3 ∷ []) (sevens 4)) (refused 5, sevens 4)
+    (("an entry p of the row taken for 0", (given 1, 2 ∷ 1 ∷ 0 ∷ 7 ∷ [])) ∷ [])
+    ∷ tried (order-reply 3 2 (1 ∷ 0 ∷ 0 ∷ 2 ∷ []) (1 ∷ 0 ∷ []) (sevens 2)) (refused 6, sevens 2)
+    (("a buffer of n bytes taken", (given 1, 2 ∷ 1 ∷ []))
+    ∷ ("the short buffer's first byte changed", (refused 6, 2 ∷ 7 ∷ []))
+    ∷ ("the short buffer's last byte changed", (refused 6, 7 ∷ 1 ∷ []))
+    ∷ [])
+    -- several faults at once: the first test that applies gives the number
+    ∷ tried (orderLeft 4 65 (9 ∷ []) (9 ∷ []) []) (refused 1) (numbered "a later test's number" (2 ∷ 3 ∷ 4 ∷ 5 ∷ 6 ∷ []))
+    ∷ tried (orderLeft 3 65 (9 ∷ []) (9 ∷ []) []) (refused 2) (numbered "a later test's number" (3 ∷ 4 ∷ 5 ∷ 6 ∷ []))
+    ∷ tried (orderLeft 3 2 (9 ∷ []) (9 ∷ []) []) (refused 3) (numbered "a later test's number" (4 ∷ 5 ∷ 6 ∷ []))
+    ∷ tried (orderLeft 3 2 (9 ∷ 9 ∷ 9 ∷ 9 ∷ []) (9 ∷ []) []) (refused 4) (numbered "a later test's number" (5 ∷ 6 ∷ []))
+    ∷ tried (orderLeft 3 2 (9 ∷ 9 ∷ 9 ∷ 9 ∷ []) (9 ∷ 9 ∷ []) []) (refused 5) (numbered "a later test's number" (6 ∷ []))
+    ∷ tried (orderLeft 3 2 (0 ∷ 0 ∷ 0 ∷ 0 ∷ []) (0 ∷ 0 ∷ []) []) (refused 6) (numbered "another number" (0 ∷ 1 ∷ 2 ∷ 3 ∷ 4 ∷ 5 ∷ 7 ∷ 8 ∷ []))
+    ∷ []
+
+unfoldable pub wrongImages : List Trial
+wrongImages =
+    -- [1 0 | 0 2] modulo 3: v + v·M for (1,1)
+    tried (imageOn P7 (1 ∷ 1 ∷ []) (1 ∷ 1 ∷ [])) (given tt, 2 ∷ 0 ∷ 7 ∷ [])
+    (("nothing written", (given tt, sevens 3))
+    ∷ ("the row itself", (given tt, 1 ∷ 1 ∷ 7 ∷ []))
+    ∷ ("the constant coefficient left out", (given tt, 1 ∷ 2 ∷ 7 ∷ []))
+    ∷ ("not reduced modulo p", (given tt, 2 ∷ 3 ∷ 7 ∷ []))
+    ∷ ("the last entry not written", (given tt, 2 ∷ 7 ∷ 7 ∷ []))
+    ∷ ("a byte beyond n changed", (given tt, 2 ∷ 0 ∷ 0 ∷ []))
+    ∷ ("the bytes beyond n gone", (given tt, 2 ∷ 0 ∷ []))
+    ∷ numberedOne "refused, and nothing is wrong" (sevens 3) (0 ∷ 1 ∷ 2 ∷ 3 ∷ 4 ∷ 5 ∷ 6 ∷ 7 ∷ 8 ∷ []))
+    -- "Columns for rows"
+    ∷ tried (imageOn P10 (1 ∷ 0 ∷ []) (0 ∷ 1 ∷ [])) (given tt, 0 ∷ 1 ∷ 7 ∷ []) (("columns for rows", (given tt, 0 ∷ 0 ∷ 7 ∷ [])) ∷ [])
+    -- the sum 2·250·250 of the greatest entries
+    ∷ tried (image-reply 251 2 (replicate 4 250) (replicate 2 250) (0 ∷ 1 ∷ []) (sevens 3)) (given tt, 2 ∷ 2 ∷ 7 ∷ [])
+    (("the sum cut to a byte", (given tt, 72 ∷ 72 ∷ 7 ∷ [])) ∷ ("the sum cut to 16 bits", (given tt, 228 ∷ 228 ∷ 7 ∷ [])) ∷ [])
+    -- leading zeros are allowed, and so is nothing but zeros
+    ∷ tried (imageOn P7 (1 ∷ 1 ∷ []) (1 ∷ 0 ∷ [])) (given tt, 1 ∷ 1 ∷ 7 ∷ [])
+    (("the highest coefficient first", (given tt, 1 ∷ 2 ∷ 7 ∷ [])) ∷ numberedOne "a leading zero refused" (sevens 3) (7 ∷ 5 ∷ []))
+    ∷ tried (imageOn P7 (1 ∷ 1 ∷ []) (0 ∷ [])) (given tt, 0 ∷ 0 ∷ 7 ∷ [])
+    (("1 for the polynomial 0", (given tt, 1 ∷ 1 ∷ 7 ∷ [])) ∷ numberedOne "the polynomial 0 refused" (sevens 3) (7 ∷ []))
+    -- 65 coefficients are taken, whatever n is; 66 and none are not
+    ∷ tried (imageOn P7 (1 ∷ 1 ∷ []) (replicate 64 0 ++ (1 ∷ []))) (given tt, 1 ∷ 1 ∷ 7 ∷ [])
+    (("n + 1 coefficients taken", (given tt, 0 ∷ 0 ∷ 7 ∷ []))
+    ∷ ("64 coefficients taken", (given tt, 0 ∷ 0 ∷ 7 ∷ []))
+    ∷ numberedOne "65 coefficients refused" (sevens 3) (7 ∷ []))
+    ∷ tried (imageOn P7 (1 ∷ 1 ∷ []) (replicate 66 0)) (refused 7, sevens 3) (("66 coefficients answered", (given tt, 0 ∷ 0 ∷ 7 ∷ [])) ∷ [])
+    ∷ tried (imageOn P7 (1 ∷ 1 ∷ []) (replicate 257 1)) (refused 7, sevens 3)
+    (("257 coefficients cut to a byte and answered as 1", (given tt, 1 ∷ 1 ∷ 7 ∷ [])) ∷ [])
+    ∷ tried (imageOn P7 (1 ∷ 1 ∷ []) []) (refused 7, sevens 3)
+    (("no coefficient answered as 0", (given tt, 0 ∷ 0 ∷ 7 ∷ []))
+    ∷ ("the first lent byte changed by a refused call", (refused 7, 0 ∷ 7 ∷ 7 ∷ []))
+    ∷ ("a lent byte beyond n changed by a refused call", (refused 7, 7 ∷ 7 ∷ 0 ∷ []))
+    ∷ [])
+    -- entries and buffers
+    ∷ tried (imageOn P7 (1 ∷ 1 ∷ []) (3 ∷ [])) (refused 5, sevens 3) (("a coefficient p taken for 0", (given tt, 0 ∷ 0 ∷ 7 ∷ [])) ∷ [])
+    ∷ tried (image-reply 3 2 (1 ∷ 0 ∷ 0 ∷ 2 ∷ []) (1 ∷ 1 ∷ []) (1 ∷ []) (sevens 1)) (refused 6, sevens 1)
+    (("a buffer of n − 1 bytes taken", (given tt, 1 ∷ [])) ∷ ("the short buffer changed", (refused 6, 1 ∷ [])) ∷ [])
+    -- the edges of n
+    ∷ tried (image-reply 2 64 (replicate 4096 0) (replicate 64 1) (1 ∷ []) (sevens 64)) (given tt, replicate 64 1)
+    (numberedOne "n = 64 refused" (sevens 64) (2 ∷ []))
+    ∷ tried (image-reply 2 65 (replicate 4225 0) (replicate 65 1) (1 ∷ []) (sevens 65)) (refused 2, sevens 65)
+    (("n = 65 answered", (given tt, replicate 65 1)) ∷ [])
+    -- several faults at once; 7 stands before 5
+    ∷ tried (imageLeft 4 65 (9 ∷ []) (9 ∷ []) [] []) (refused 1) (numbered "a later test's number" (2 ∷ 3 ∷ 4 ∷ 7 ∷ 5 ∷ 6 ∷ []))
+    ∷ tried (imageLeft 3 65 (9 ∷ []) (9 ∷ []) [] []) (refused 2) (numbered "a later test's number" (3 ∷ 4 ∷ 7 ∷ 5 ∷ 6 ∷ []))
+    ∷ tried (imageLeft 3 2 (9 ∷ []) (9 ∷ []) [] []) (refused 3) (numbered "a later test's number" (4 ∷ 7 ∷ 5 ∷ 6 ∷ []))
+    ∷ tried (imageLeft 3 2 (9 ∷ 9 ∷ 9 ∷ 9 ∷ []) (9 ∷ []) [] []) (refused 4) (numbered "a later test's number" (7 ∷ 5 ∷ 6 ∷ []))
+    ∷ tried (imageLeft 3 2 (9 ∷ 9 ∷ 9 ∷ 9 ∷ []) (9 ∷ 9 ∷ []) [] []) (refused 7) (numbered "a later test's number" (5 ∷ 6 ∷ []))
+    ∷ tried (imageLeft 3 2 (9 ∷ 9 ∷ 9 ∷ 9 ∷ []) (9 ∷ 9 ∷ []) (9 ∷ []) []) (refused 5) (numbered "a later test's number" (6 ∷ []))
+    ∷ tried (imageLeft 3 2 (0 ∷ 0 ∷ 0 ∷ 0 ∷ []) (0 ∷ 0 ∷ []) (0 ∷ []) []) (refused 6)
+    (numbered "another number" (0 ∷ 1 ∷ 2 ∷ 3 ∷ 4 ∷ 5 ∷ 7 ∷ 8 ∷ []))
+    ∷ []
+
+unfoldable pub wrongStands : List Trial
+wrongStands =
+    -- "Refusing always", "always short, 1", "writing nothing", "an invented spent"
+    tried (standOn P5) (proving 2 1 2, 1 ∷ 0 ∷ 1 ∷ 7 ∷ [], 0 ∷ 0 ∷ 7 ∷ [])
+    (("always short, 1; or a row that costs the whole allowance not taken", (lacking 0 0 0 1, 1 ∷ 0 ∷ 0 ∷ 7 ∷ [], 1 ∷ 0 ∷ 7 ∷ []))
+    ∷ ("always short, 1, with all rows taken", (lacking 0 1 2 1, 1 ∷ 0 ∷ 0 ∷ 7 ∷ [], 1 ∷ 0 ∷ 7 ∷ []))
+    ∷ ("nothing written", (proving 2 1 2, sevens 4, sevens 3))
+    ∷ ("the polynomial not written", (proving 2 1 2, sevens 4, 0 ∷ 0 ∷ 7 ∷ []))
+    ∷ ("the zeros of the witness buffer not written", (proving 2 1 2, 1 ∷ 0 ∷ 1 ∷ 7 ∷ [], sevens 3))
+    ∷ ("spent 0", (proving 2 1 0, 1 ∷ 0 ∷ 1 ∷ 7 ∷ [], 0 ∷ 0 ∷ 7 ∷ []))
+    ∷ ("spent one too low", (proving 2 1 1, 1 ∷ 0 ∷ 1 ∷ 7 ∷ [], 0 ∷ 0 ∷ 7 ∷ []))
+    ∷ ("the products of the test in spent", (proving 2 1 6, 1 ∷ 0 ∷ 1 ∷ 7 ∷ [], 0 ∷ 0 ∷ 7 ∷ []))
+    ∷ ("taken 0", (proving 2 0 2, 1 ∷ 0 ∷ 1 ∷ 7 ∷ [], 0 ∷ 0 ∷ 7 ∷ []))
+    ∷ ("the number of coefficients for the degree", (proving 3 1 2, 1 ∷ 0 ∷ 1 ∷ 7 ∷ [], 0 ∷ 0 ∷ 7 ∷ []))
+    ∷ (
+      "proved, with a witness",
+      (given (record { standing = proved; degree = 2; taken = 1; spent = 2; witness = 1 }), 1 ∷ 0 ∷ 1 ∷ 7 ∷ [], 0 ∷ 0 ∷ 7 ∷ []),
+    )
+    ∷ ("the minimal polynomial called short", (lacking 2 1 2 1, 1 ∷ 0 ∷ 1 ∷ 7 ∷ [], 0 ∷ 0 ∷ 7 ∷ []))
+    ∷ ("the minimal polynomial called short, without a witness", (lacking 2 1 2 0, 1 ∷ 0 ∷ 1 ∷ 7 ∷ [], 0 ∷ 0 ∷ 7 ∷ []))
+    ∷ numberedTwo "refused, and nothing is wrong" (sevens 4) (sevens 3) (0 ∷ 1 ∷ 2 ∷ 3 ∷ 4 ∷ 5 ∷ 6 ∷ 7 ∷ 8 ∷ []))
+    ∷ tried (standOn P3) (proving 1 1 1, 0 ∷ 1 ∷ 7 ∷ [], 0 ∷ 7 ∷ []) (("always short, 1", (lacking 0 0 0 1, 1 ∷ 0 ∷ 7 ∷ [], 1 ∷ 7 ∷ [])) ∷ [])
+    -- no rows: F is 1
+    ∷ tried (standOn P1) (lacking 0 0 0 1, 1 ∷ 0 ∷ 7 ∷ [], 1 ∷ 7 ∷ [])
+    (("F = 0, which sends all to zero", (proving 0 0 0, 0 ∷ 0 ∷ 7 ∷ [], 0 ∷ 7 ∷ []))
+    ∷ ("F = 1 called proved, no row being left", (proving 0 0 0, 1 ∷ 0 ∷ 7 ∷ [], 0 ∷ 7 ∷ []))
+    ∷ ("a unit row taken that is not on the list", (proving 1 1 1, 0 ∷ 1 ∷ 7 ∷ [], 0 ∷ 7 ∷ []))
+    ∷ numberedTwo "an empty list refused" (sevens 3) (sevens 2) (4 ∷ []))
+    -- a zero row costs nothing and is taken
+    ∷ tried (standOn P2) (lacking 0 1 0 1, 1 ∷ 0 ∷ 7 ∷ [], 1 ∷ 7 ∷ [])
+    (("the zero row not taken", (lacking 0 0 0 1, 1 ∷ 0 ∷ 7 ∷ [], 1 ∷ 7 ∷ []))
+    ∷ ("the dear row counted as taken", (lacking 0 2 0 1, 1 ∷ 0 ∷ 7 ∷ [], 1 ∷ 7 ∷ []))
+    ∷ ("the dear row taken", (proving 1 2 1, 0 ∷ 1 ∷ 7 ∷ [], 0 ∷ 7 ∷ []))
+    ∷ [])
+    -- a row over the allowance; the witness is the least i that fails, with its own image
+    ∷ tried (standOn P4) (lacking 0 0 0 1, 1 ∷ 0 ∷ 0 ∷ 7 ∷ [], 1 ∷ 0 ∷ 7 ∷ [])
+    (("a row taken that the allowance pays in part", (proving 2 1 2, 1 ∷ 0 ∷ 1 ∷ 7 ∷ [], 0 ∷ 0 ∷ 7 ∷ []))
+    ∷ ("the products of a row that is not taken in spent", (lacking 0 0 2 1, 1 ∷ 0 ∷ 0 ∷ 7 ∷ [], 1 ∷ 0 ∷ 7 ∷ []))
+    ∷ ("the allowance for spent", (lacking 0 0 1 1, 1 ∷ 0 ∷ 0 ∷ 7 ∷ [], 1 ∷ 0 ∷ 7 ∷ []))
+    ∷ ("the last unit row that fails, not the first", (lacking 0 0 0 2, 1 ∷ 0 ∷ 0 ∷ 7 ∷ [], 0 ∷ 1 ∷ 7 ∷ []))
+    ∷ ("the image of another unit row", (lacking 0 0 0 1, 1 ∷ 0 ∷ 0 ∷ 7 ∷ [], 0 ∷ 1 ∷ 7 ∷ []))
+    ∷ ("the witness counted from 0", (lacking 0 0 0 0, 1 ∷ 0 ∷ 0 ∷ 7 ∷ [], 1 ∷ 0 ∷ 7 ∷ []))
+    ∷ [])
+    -- the identity
+    ∷ tried (standOn P6) (proving 1 1 1, 4 ∷ 1 ∷ 0 ∷ 7 ∷ [], 0 ∷ 0 ∷ 7 ∷ [])
+    (("the chain product for F", (proving 2 1 1, 1 ∷ 3 ∷ 1 ∷ 7 ∷ [], 0 ∷ 0 ∷ 7 ∷ []))
+    ∷ ("not monic", (proving 1 1 1, 1 ∷ 4 ∷ 0 ∷ 7 ∷ [], 0 ∷ 0 ∷ 7 ∷ []))
+    ∷ ("short, since F has a degree below n", (lacking 1 1 1 2, 4 ∷ 1 ∷ 0 ∷ 7 ∷ [], 0 ∷ 0 ∷ 7 ∷ []))
+    ∷ [])
+    -- "Multiplying the orders"; "calling F proved when the taken rows' orders stop growing"; then each number and byte
+    ∷ tried (standOn P7) (lacking 1 2 2 2, 2 ∷ 1 ∷ 0 ∷ 7 ∷ [], 0 ∷ 1 ∷ 7 ∷ [])
+    (("the orders multiplied", (lacking 2 2 2 2, 1 ∷ 1 ∷ 1 ∷ 7 ∷ [], 0 ∷ 1 ∷ 7 ∷ []))
+    ∷ (
+      "proved without a test; or since the orders stopped growing; or with the last unit row untested",
+      (proving 1 2 2, 2 ∷ 1 ∷ 0 ∷ 7 ∷ [], 0 ∷ 0 ∷ 7 ∷ []),
+    )
+    ∷ ("proved, with the witness's image", (proving 1 2 2, 2 ∷ 1 ∷ 0 ∷ 7 ∷ [], 0 ∷ 1 ∷ 7 ∷ []))
+    ∷ ("relative orders for orders: the second row costs nothing", (lacking 1 2 1 2, 2 ∷ 1 ∷ 0 ∷ 7 ∷ [], 0 ∷ 1 ∷ 7 ∷ []))
+    ∷ ("a row that adds nothing passed over", (lacking 1 1 1 2, 2 ∷ 1 ∷ 0 ∷ 7 ∷ [], 0 ∷ 1 ∷ 7 ∷ []))
+    ∷ ("the allowance for spent", (lacking 1 2 9 2, 2 ∷ 1 ∷ 0 ∷ 7 ∷ [], 0 ∷ 1 ∷ 7 ∷ []))
+    ∷ ("spent 0", (lacking 1 2 0 2, 2 ∷ 1 ∷ 0 ∷ 7 ∷ [], 0 ∷ 1 ∷ 7 ∷ []))
+    ∷ ("the witness too high", (lacking 1 2 2 3, 2 ∷ 1 ∷ 0 ∷ 7 ∷ [], 0 ∷ 1 ∷ 7 ∷ []))
+    ∷ ("the witness counted from 0", (lacking 1 2 2 1, 2 ∷ 1 ∷ 0 ∷ 7 ∷ [], 0 ∷ 1 ∷ 7 ∷ []))
+    ∷ ("short, with witness 0", (lacking 1 2 2 0, 2 ∷ 1 ∷ 0 ∷ 7 ∷ [], 0 ∷ 1 ∷ 7 ∷ []))
+    ∷ ("the image of e(1)", (lacking 1 2 2 2, 2 ∷ 1 ∷ 0 ∷ 7 ∷ [], 0 ∷ 0 ∷ 7 ∷ []))
+    ∷ ("e(2)·M for e(2)·F(M)", (lacking 1 2 2 2, 2 ∷ 1 ∷ 0 ∷ 7 ∷ [], 0 ∷ 2 ∷ 7 ∷ []))
+    ∷ ("the image not written", (lacking 1 2 2 2, 2 ∷ 1 ∷ 0 ∷ 7 ∷ [], sevens 3))
+    ∷ ("the polynomial not written", (lacking 1 2 2 2, sevens 4, 0 ∷ 1 ∷ 7 ∷ []))
+    ∷ ("bytes above the degree left as they were", (lacking 1 2 2 2, 2 ∷ 1 ∷ 7 ∷ 7 ∷ [], 0 ∷ 1 ∷ 7 ∷ []))
+    ∷ ("without the leading 1", (lacking 1 2 2 2, 2 ∷ 0 ∷ 0 ∷ 7 ∷ [], 0 ∷ 1 ∷ 7 ∷ []))
+    ∷ ("a byte beyond n + 1 changed in the polynomial buffer", (lacking 1 2 2 2, 2 ∷ 1 ∷ 0 ∷ 0 ∷ [], 0 ∷ 1 ∷ 7 ∷ []))
+    ∷ ("a byte beyond n changed in the witness buffer", (lacking 1 2 2 2, 2 ∷ 1 ∷ 0 ∷ 7 ∷ [], 0 ∷ 1 ∷ 0 ∷ []))
+    ∷ [])
+    -- "Spinning the first row and ignoring the others"
+    ∷ tried (standOn P8) (proving 2 2 2, 2 ∷ 0 ∷ 1 ∷ 7 ∷ [], 0 ∷ 0 ∷ 7 ∷ [])
+    (("the first row alone", (lacking 1 1 1 2, 2 ∷ 1 ∷ 0 ∷ 7 ∷ [], 0 ∷ 1 ∷ 7 ∷ []))
+    ∷ ("the first row alone, the others counted", (lacking 1 2 2 2, 2 ∷ 1 ∷ 0 ∷ 7 ∷ [], 0 ∷ 1 ∷ 7 ∷ []))
+    ∷ ("the last row alone, the others counted", (lacking 1 2 2 1, 1 ∷ 1 ∷ 0 ∷ 7 ∷ [], 2 ∷ 0 ∷ 7 ∷ []))
+    ∷ ("the first row's order called proved", (proving 1 2 2, 2 ∷ 1 ∷ 0 ∷ 7 ∷ [], 0 ∷ 0 ∷ 7 ∷ []))
+    ∷ ("the allowance for spent", (proving 2 2 9, 2 ∷ 0 ∷ 1 ∷ 7 ∷ [], 0 ∷ 0 ∷ 7 ∷ []))
+    ∷ ("spent 0", (proving 2 2 0, 2 ∷ 0 ∷ 1 ∷ 7 ∷ [], 0 ∷ 0 ∷ 7 ∷ []))
+    ∷ ("n products a row", (proving 2 2 4, 2 ∷ 0 ∷ 1 ∷ 7 ∷ [], 0 ∷ 0 ∷ 7 ∷ []))
+    ∷ [])
+    -- the longest front part, and no shorter one
+    ∷ tried (stand-reply 3 2 (1 ∷ 0 ∷ 0 ∷ 2 ∷ []) (1 ∷ 0 ∷ 0 ∷ 1 ∷ []) 1 (sevens 4) (sevens 3)) (lacking 1 1 1 2, 2 ∷ 1 ∷ 0 ∷ 7 ∷ [], 0 ∷ 1 ∷ 7 ∷ [])
+    (("no row taken, as not all can be", (lacking 0 0 0 1, 1 ∷ 0 ∷ 0 ∷ 7 ∷ [], 1 ∷ 0 ∷ 7 ∷ []))
+    ∷ ("each row held to the allowance by itself", (proving 2 2 2, 2 ∷ 0 ∷ 1 ∷ 7 ∷ [], 0 ∷ 0 ∷ 7 ∷ []))
+    ∷ [])
+    ∷ tried (stand-reply 3 2 (1 ∷ 0 ∷ 0 ∷ 2 ∷ []) (1 ∷ 0 ∷ 0 ∷ 0 ∷ []) 1 (sevens 4) (sevens 3)) (lacking 1 2 1 2, 2 ∷ 1 ∷ 0 ∷ 7 ∷ [], 0 ∷ 1 ∷ 7 ∷ [])
+    (("the zero row not taken, the allowance being used up", (lacking 1 1 1 2, 2 ∷ 1 ∷ 0 ∷ 7 ∷ [], 0 ∷ 1 ∷ 7 ∷ [])) ∷ [])
+    -- "Skipping a row that is over the allowance and taking a later cheap one"
+    ∷ tried (standOn P9) (lacking 0 0 0 1, 1 ∷ 0 ∷ 0 ∷ 7 ∷ [], 1 ∷ 0 ∷ 7 ∷ [])
+    (("the dear row skipped, the zero row taken", (lacking 0 1 0 1, 1 ∷ 0 ∷ 0 ∷ 7 ∷ [], 1 ∷ 0 ∷ 7 ∷ []))
+    ∷ ("the dear row counted too", (lacking 0 2 0 1, 1 ∷ 0 ∷ 0 ∷ 7 ∷ [], 1 ∷ 0 ∷ 7 ∷ []))
+    ∷ ("the dear row taken in the cheap one's place", (proving 2 1 2, 2 ∷ 0 ∷ 1 ∷ 7 ∷ [], 0 ∷ 0 ∷ 7 ∷ []))
+    ∷ [])
+    ∷ tried (stand-reply 3 2 (1 ∷ 0 ∷ 0 ∷ 2 ∷ []) (1 ∷ 1 ∷ 1 ∷ 0 ∷ []) 1 (sevens 4) (sevens 3)) (lacking 0 0 0 1, 1 ∷ 0 ∷ 0 ∷ 7 ∷ [], 1 ∷ 0 ∷ 7 ∷ [])
+    (("the dear row skipped, the cheap one taken", (lacking 1 1 1 2, 2 ∷ 1 ∷ 0 ∷ 7 ∷ [], 0 ∷ 1 ∷ 7 ∷ [])) ∷ [])
+    -- "Columns for rows"; "calling F proved when every irreducible factor of the chain product divides F"
+    ∷ tried (standOn P10) (lacking 1 1 1 1, 0 ∷ 1 ∷ 0 ∷ 7 ∷ [], 0 ∷ 1 ∷ 7 ∷ [])
+    (("columns for rows", (proving 2 1 2, 0 ∷ 0 ∷ 1 ∷ 7 ∷ [], 0 ∷ 0 ∷ 7 ∷ []))
+    ∷ (
+      "proved without a test; or since x divides F, the chain product's one factor",
+      (proving 1 1 1, 0 ∷ 1 ∷ 0 ∷ 7 ∷ [], 0 ∷ 0 ∷ 7 ∷ []),
+    )
+    ∷ [])
+    ∷ tried (standOn P11) (proving 2 1 2, 0 ∷ 0 ∷ 1 ∷ 7 ∷ [], 0 ∷ 0 ∷ 7 ∷ [])
+    (("columns for rows", (lacking 1 1 1 2, 0 ∷ 1 ∷ 0 ∷ 7 ∷ [], 1 ∷ 0 ∷ 7 ∷ []))
+    ∷ ("columns for rows in the orders alone", (lacking 1 1 1 1, 0 ∷ 1 ∷ 0 ∷ 7 ∷ [], 0 ∷ 1 ∷ 7 ∷ []))
+    ∷ ("each irreducible factor once", (lacking 1 1 2 1, 0 ∷ 1 ∷ 0 ∷ 7 ∷ [], 0 ∷ 1 ∷ 7 ∷ []))
+    ∷ [])
+    -- "Giving relative orders where orders are due": (0,1) and (1,0) of [0 1 | 0 0] have the orders x and x²; over the first, the second has x
+    ∷ tried (stand-reply 2 2 (0 ∷ 1 ∷ 0 ∷ 0 ∷ []) (0 ∷ 1 ∷ 1 ∷ 0 ∷ []) 9 (sevens 4) (sevens 3)) (proving 2 2 3, 0 ∷ 0 ∷ 1 ∷ 7 ∷ [], 0 ∷ 0 ∷ 7 ∷ [])
+    (("the common multiple of relative orders", (lacking 1 2 2 1, 0 ∷ 1 ∷ 0 ∷ 7 ∷ [], 0 ∷ 1 ∷ 7 ∷ []))
+    ∷ ("the degrees of relative orders in spent", (proving 2 2 2, 0 ∷ 0 ∷ 1 ∷ 7 ∷ [], 0 ∷ 0 ∷ 7 ∷ []))
+    ∷ [])
+    ∷ tried (stand-reply 2 2 (0 ∷ 1 ∷ 0 ∷ 0 ∷ []) (0 ∷ 1 ∷ 1 ∷ 0 ∷ []) 2 (sevens 4) (sevens 3)) (lacking 1 1 1 1, 0 ∷ 1 ∷ 0 ∷ 7 ∷ [], 0 ∷ 1 ∷ 7 ∷ [])
+    (("a row taken by the degree of its relative order", (proving 2 2 2, 0 ∷ 0 ∷ 1 ∷ 7 ∷ [], 0 ∷ 0 ∷ 7 ∷ [])) ∷ [])
+    -- orders with a common factor: (x − 1)(x − 2) and (x − 1)(x − 4) modulo 5
+    ∷ tried (stand-reply 5 3 (1 ∷ 0 ∷ 0 ∷ 0 ∷ 2 ∷ 0 ∷ 0 ∷ 0 ∷ 4 ∷ []) (1 ∷ 1 ∷ 0 ∷ 1 ∷ 0 ∷ 1 ∷ []) 9 (sevens 5) (sevens 4))
+    (proving 3 2 4, 2 ∷ 4 ∷ 3 ∷ 1 ∷ 7 ∷ [], 0 ∷ 0 ∷ 0 ∷ 7 ∷ [])
+    (("divided by a greatest common divisor that was not made monic", (lacking 3 2 4 3, 4 ∷ 1 ∷ 4 ∷ 1 ∷ 7 ∷ [], 0 ∷ 0 ∷ 1 ∷ 7 ∷ [])) ∷ [])
+    -- the allowance is any number of 32 bits
+    ∷ tried (stand-reply 3 2 (0 ∷ 1 ∷ 2 ∷ 0 ∷ []) (1 ∷ 0 ∷ []) 256 (sevens 4) (sevens 3)) (proving 2 1 2, 1 ∷ 0 ∷ 1 ∷ 7 ∷ [], 0 ∷ 0 ∷ 7 ∷ [])
+    (("the allowance cut to a byte", (lacking 0 0 0 1, 1 ∷ 0 ∷ 0 ∷ 7 ∷ [], 1 ∷ 0 ∷ 7 ∷ [])) ∷ [])
+    ∷ tried (stand-reply 3 2 (0 ∷ 1 ∷ 2 ∷ 0 ∷ []) (1 ∷ 0 ∷ []) 65536 (sevens 4) (sevens 3)) (proving 2 1 2, 1 ∷ 0 ∷ 1 ∷ 7 ∷ [], 0 ∷ 0 ∷ 7 ∷ [])
+    (("the allowance cut to 16 bits", (lacking 0 0 0 1, 1 ∷ 0 ∷ 0 ∷ 7 ∷ [], 1 ∷ 0 ∷ 7 ∷ [])) ∷ [])
+    ∷ tried (stand-reply 3 2 (0 ∷ 1 ∷ 2 ∷ 0 ∷ []) (1 ∷ 0 ∷ []) 4294967295 (sevens 4) (sevens 3)) (proving 2 1 2, 1 ∷ 0 ∷ 1 ∷ 7 ∷ [], 0 ∷ 0 ∷ 7 ∷ [])
+    (("the allowance taken for −1", (lacking 0 0 0 1, 1 ∷ 0 ∷ 0 ∷ 7 ∷ [], 1 ∷ 0 ∷ 7 ∷ []))
+    ∷ ("the allowance for spent", (proving 2 1 4294967295, 1 ∷ 0 ∷ 1 ∷ 7 ∷ [], 0 ∷ 0 ∷ 7 ∷ []))
+    ∷ [])
+    -- the edges of p, n and the list: 251, 64 and 128 rows are taken
+    ∷ tried (stand-reply 251 1 (250 ∷ []) (250 ∷ []) 9 (sevens 2) (sevens 1)) (proving 1 1 1, 1 ∷ 1 ∷ [], 0 ∷ [])
+    (numberedTwo "p = 251 refused" (sevens 2) (sevens 1) (1 ∷ []))
+    ∷ tried (stand-reply 253 1 (250 ∷ []) [] 9 (sevens 2) (sevens 1)) (refused 1, sevens 2, sevens 1)
+    (("p = 253 answered", (lacking 0 0 0 1, 1 ∷ 0 ∷ [], 1 ∷ [])) ∷ [])
+    ∷ tried (stand-reply 257 1 (250 ∷ []) [] 9 (sevens 2) (sevens 1)) (refused 1, sevens 2, sevens 1)
+    (("a prime over 251 answered", (lacking 0 0 0 1, 1 ∷ 0 ∷ [], 1 ∷ [])) ∷ [])
+    ∷ tried (stand-reply 258 1 (0 ∷ []) (1 ∷ []) 1 (sevens 3) (sevens 2)) (refused 1, sevens 3, sevens 2)
+    (("p = 258 cut to a byte and answered as 2", (proving 1 1 1, 0 ∷ 1 ∷ 7 ∷ [], 0 ∷ 7 ∷ [])) ∷ [])
+    ∷ tried (stand-reply 4 1 (0 ∷ []) (1 ∷ []) 1 (sevens 3) (sevens 2)) (refused 1, sevens 3, sevens 2)
+    (("p = 4 answered", (proving 1 1 1, 0 ∷ 1 ∷ 7 ∷ [], 0 ∷ 7 ∷ [])) ∷ [])
+    ∷ tried (stand-reply 0 1 (0 ∷ []) (1 ∷ []) 1 (sevens 3) (sevens 2)) (refused 1, sevens 3, sevens 2)
+    (("p = 0 answered", (proving 1 1 1, 0 ∷ 1 ∷ 7 ∷ [], 0 ∷ 7 ∷ [])) ∷ [])
+    ∷ tried (stand-reply 1 1 (0 ∷ []) (0 ∷ []) 1 (sevens 3) (sevens 2)) (refused 1, sevens 3, sevens 2)
+    (("p = 1 answered", (proving 0 1 0, 0 ∷ 0 ∷ 7 ∷ [], 0 ∷ 7 ∷ [])) ∷ [])
+    ∷ tried (stand-reply 2 64 (replicate 4096 0) [] 9 (sevens 65) (sevens 64)) (lacking 0 0 0 1, 1 ∷ replicate 64 0, 1 ∷ replicate 63 0)
+    (numberedTwo "n = 64 refused" (sevens 65) (sevens 64) (2 ∷ []))
+    ∷ tried (stand-reply 2 65 (replicate 4225 0) [] 9 (sevens 66) (sevens 65)) (refused 2, sevens 66, sevens 65)
+    (("n = 65 answered", (lacking 0 0 0 1, 1 ∷ replicate 65 0, 1 ∷ replicate 64 0)) ∷ [])
+    ∷ tried (stand-reply 2 257 (0 ∷ []) (1 ∷ []) 1 (sevens 3) (sevens 2)) (refused 2, sevens 3, sevens 2)
+    (("n = 257 cut to a byte and answered as 1", (proving 1 1 1, 0 ∷ 1 ∷ 7 ∷ [], 0 ∷ 7 ∷ [])) ∷ [])
+    ∷ tried (stand-reply 2 0 [] [] 9 (sevens 1) []) (refused 2, sevens 1, []) (("n = 0 answered", (proving 0 0 0, 1 ∷ [], [])) ∷ [])
+    ∷ tried (stand-reply 2 1 (0 ∷ []) (replicate 128 0) 9 (sevens 2) (sevens 1)) (lacking 0 128 0 1, 1 ∷ 0 ∷ [], 1 ∷ [])
+    (numberedTwo "128 rows refused" (sevens 2) (sevens 1) (4 ∷ []) ++ (("the last row not taken", (lacking 0 127 0 1, 1 ∷ 0 ∷ [], 1 ∷ [])) ∷ []))
+    ∷ tried (stand-reply 2 1 (0 ∷ []) (replicate 129 0) 9 (sevens 2) (sevens 1)) (refused 4, sevens 2, sevens 1)
+    (("129 rows answered", (lacking 0 129 0 1, 1 ∷ 0 ∷ [], 1 ∷ []))
+    ∷ ("128 of 129 rows answered", (lacking 0 128 0 1, 1 ∷ 0 ∷ [], 1 ∷ []))
+    ∷ [])
+    ∷ tried (stand-reply 2 1 (0 ∷ []) (replicate 257 0) 9 (sevens 2) (sevens 1)) (refused 4, sevens 2, sevens 1)
+    (("the number of rows cut to a byte", (lacking 0 1 0 1, 1 ∷ 0 ∷ [], 1 ∷ [])) ∷ [])
+    -- what is too long, too short or too large is refused, and no lent byte changes
+    ∷ tried (stand-reply 3 2 (1 ∷ 0 ∷ 0 ∷ 2 ∷ []) (1 ∷ 0 ∷ 1 ∷ []) 9 (sevens 4) (sevens 3)) (refused 4, sevens 4, sevens 3)
+    (("the whole rows of the list taken", (lacking 1 1 1 2, 2 ∷ 1 ∷ 0 ∷ 7 ∷ [], 0 ∷ 1 ∷ 7 ∷ []))
+    ∷ ("the first byte of the polynomial buffer changed", (refused 4, 1 ∷ 7 ∷ 7 ∷ 7 ∷ [], sevens 3))
+    ∷ ("a byte beyond n + 1 changed in the polynomial buffer", (refused 4, 7 ∷ 7 ∷ 7 ∷ 0 ∷ [], sevens 3))
+    ∷ ("the first byte of the witness buffer changed", (refused 4, sevens 4, 0 ∷ 7 ∷ 7 ∷ []))
+    ∷ ("a byte beyond n changed in the witness buffer", (refused 4, sevens 4, 7 ∷ 7 ∷ 0 ∷ []))
+    ∷ [])
+    ∷ tried (stand-reply 3 2 (1 ∷ 0 ∷ 0 ∷ 3 ∷ []) (1 ∷ 0 ∷ []) 9 (sevens 4) (sevens 3)) (refused 5, sevens 4, sevens 3)
+    (("an entry p of the matrix taken for 0", (lacking 1 1 1 2, 2 ∷ 1 ∷ 0 ∷ 7 ∷ [], 0 ∷ 2 ∷ 7 ∷ [])) ∷ [])
+    ∷ tried (stand-reply 3 2 (1 ∷ 0 ∷ 0 ∷ 2 ∷ []) (1 ∷ 3 ∷ []) 9 (sevens 4) (sevens 3)) (refused 5, sevens 4, sevens 3)
+    (("an entry p of a candidate taken for 0", (lacking 1 1 1 2, 2 ∷ 1 ∷ 0 ∷ 7 ∷ [], 0 ∷ 1 ∷ 7 ∷ [])) ∷ [])
+    ∷ tried (stand-reply 3 2 (1 ∷ 0 ∷ 0 ∷ 2 ∷ []) (1 ∷ 0 ∷ 0 ∷ 3 ∷ []) 1 (sevens 4) (sevens 3)) (refused 5, sevens 4, sevens 3)
+    (("an entry p in a row that is not taken passed by", (lacking 1 1 1 2, 2 ∷ 1 ∷ 0 ∷ 7 ∷ [], 0 ∷ 1 ∷ 7 ∷ [])) ∷ [])
+    ∷ tried (stand-reply 3 2 (1 ∷ 0 ∷ 0 ∷ 2 ∷ []) (1 ∷ 0 ∷ []) 9 (sevens 2) (sevens 2)) (refused 6, sevens 2, sevens 2)
+    (("a polynomial buffer of n bytes taken", (lacking 1 1 1 2, 2 ∷ 1 ∷ [], 0 ∷ 1 ∷ []))
+    ∷ ("the witness written by a refused call", (refused 6, sevens 2, 0 ∷ 1 ∷ []))
+    ∷ [])
+    ∷ tried (stand-reply 3 2 (1 ∷ 0 ∷ 0 ∷ 2 ∷ []) (1 ∷ 0 ∷ 0 ∷ 1 ∷ []) 9 (sevens 3) (sevens 1)) (refused 6, sevens 3, sevens 1)
+    (("a witness buffer of n − 1 bytes taken, as the standing is proved", (proving 2 2 2, 2 ∷ 0 ∷ 1 ∷ [], 0 ∷ []))
+    ∷ ("the polynomial written by a refused call", (refused 6, 2 ∷ 0 ∷ 1 ∷ [], sevens 1))
+    ∷ [])
+    -- several faults at once
+    ∷ tried (standLeft 4 65 (9 ∷ []) (9 ∷ []) [] []) (refused 1) (numbered "a later test's number" (2 ∷ 3 ∷ 4 ∷ 5 ∷ 6 ∷ []))
+    ∷ tried (standLeft 3 65 (9 ∷ []) (9 ∷ []) [] []) (refused 2) (numbered "a later test's number" (3 ∷ 4 ∷ 5 ∷ 6 ∷ []))
+    ∷ tried (standLeft 3 2 (9 ∷ []) (9 ∷ []) [] []) (refused 3) (numbered "a later test's number" (4 ∷ 5 ∷ 6 ∷ []))
+    ∷ tried (standLeft 3 2 (9 ∷ 9 ∷ 9 ∷ 9 ∷ []) (9 ∷ []) [] []) (refused 4) (numbered "a later test's number" (5 ∷ 6 ∷ []))
+    ∷ tried (standLeft 3 2 (9 ∷ 9 ∷ 9 ∷ 9 ∷ []) (9 ∷ 9 ∷ []) [] []) (refused 5) (numbered "a later test's number" (6 ∷ []))
+    ∷ tried (standLeft 3 2 (0 ∷ 0 ∷ 0 ∷ 0 ∷ []) (0 ∷ 0 ∷ []) [] []) (refused 6) (numbered "another number" (0 ∷ 1 ∷ 2 ∷ 3 ∷ 4 ∷ 5 ∷ 7 ∷ 8 ∷ []))
+    ∷ []
+
+unfoldable pub wrongChains : List Trial
+wrongChains =
+    -- the identity modulo 5: twice x − 1
+    tried (chainOn P6) (given 2, 1 ∷ 3 ∷ 1 ∷ 7 ∷ [], 1 ∷ 4 ∷ 1 ∷ 4 ∷ 7 ∷ [])
+    (("nothing written", (given 2, sevens 4, sevens 5))
+    ∷ ("the product not written", (given 2, sevens 4, 1 ∷ 4 ∷ 1 ∷ 4 ∷ 7 ∷ []))
+    ∷ ("the stages not written", (given 2, 1 ∷ 3 ∷ 1 ∷ 7 ∷ [], sevens 5))
+    ∷ ("the degree bytes missing", (given 2, 1 ∷ 3 ∷ 1 ∷ 7 ∷ [], 4 ∷ 4 ∷ 0 ∷ 0 ∷ 7 ∷ []))
+    ∷ ("a sign lost: v·M = v gives x + 1", (given 2, 1 ∷ 3 ∷ 1 ∷ 7 ∷ [], 1 ∷ 1 ∷ 1 ∷ 1 ∷ 7 ∷ []))
+    ∷ ("the common multiple of the stages for their product", (given 2, 4 ∷ 1 ∷ 0 ∷ 7 ∷ [], 1 ∷ 4 ∷ 1 ∷ 4 ∷ 7 ∷ []))
+    ∷ ("a stage that comes twice passed over", (given 1, 4 ∷ 1 ∷ 0 ∷ 7 ∷ [], 1 ∷ 4 ∷ 0 ∷ 0 ∷ 7 ∷ []))
+    ∷ ("the product without its leading 1", (given 2, 1 ∷ 3 ∷ 0 ∷ 7 ∷ [], 1 ∷ 4 ∷ 1 ∷ 4 ∷ 7 ∷ []))
+    ∷ ("a byte beyond n + 1 changed in the product buffer", (given 2, 1 ∷ 3 ∷ 1 ∷ 0 ∷ [], 1 ∷ 4 ∷ 1 ∷ 4 ∷ 7 ∷ []))
+    ∷ ("a byte beyond 2n changed in the stage buffer", (given 2, 1 ∷ 3 ∷ 1 ∷ 7 ∷ [], 1 ∷ 4 ∷ 1 ∷ 4 ∷ 0 ∷ []))
+    ∷ ("the rows looked at counted as stages", (given 3, 1 ∷ 3 ∷ 1 ∷ 7 ∷ [], 1 ∷ 4 ∷ 1 ∷ 4 ∷ 7 ∷ []))
+    ∷ ("one stage too few counted", (given 1, 1 ∷ 3 ∷ 1 ∷ 7 ∷ [], 1 ∷ 4 ∷ 1 ∷ 4 ∷ 7 ∷ []))
+    ∷ numberedTwo "refused, and nothing is wrong" (sevens 4) (sevens 5) (0 ∷ 1 ∷ 2 ∷ 3 ∷ 4 ∷ 5 ∷ 6 ∷ 7 ∷ 8 ∷ []))
+    -- [0 1 | 0 0] modulo 2 with (0,1), which gives x; then e(1) gives x, and e(2) is passed over
+    ∷ tried (chainOn P10) (given 2, 0 ∷ 0 ∷ 1 ∷ 7 ∷ [], 1 ∷ 0 ∷ 1 ∷ 0 ∷ 7 ∷ [])
+    (("the candidates skipped; or columns for rows", (given 1, 0 ∷ 0 ∷ 1 ∷ 7 ∷ [], 2 ∷ 0 ∷ 0 ∷ 0 ∷ 7 ∷ []))
+    ∷ ("the unit rows skipped", (given 1, 0 ∷ 1 ∷ 0 ∷ 7 ∷ [], 1 ∷ 0 ∷ 0 ∷ 0 ∷ 7 ∷ []))
+    ∷ ("orders for relative orders", (given 2, 0 ∷ 0 ∷ 0 ∷ 7 ∷ [], 1 ∷ 0 ∷ 2 ∷ 0 ∷ 7 ∷ []))
+    ∷ [])
+    -- the same with (1,0), which gives x²; then both unit rows are passed over
+    ∷ tried (chainOn P11) (given 1, 0 ∷ 0 ∷ 1 ∷ 7 ∷ [], 2 ∷ 0 ∷ 0 ∷ 0 ∷ 7 ∷ [])
+    (("rows passed over counted as stages of degree 0", (given 3, 0 ∷ 0 ∷ 1 ∷ 7 ∷ [], 2 ∷ 0 ∷ 0 ∷ 0 ∷ 7 ∷ []))
+    ∷ ("rows passed over counted and written as stages of degree 0", (given 3, 0 ∷ 0 ∷ 1 ∷ 7 ∷ [], 2 ∷ 0 ∷ 0 ∷ 0 ∷ 0 ∷ []))
+    ∷ ("the degree for the number of stages", (given 2, 0 ∷ 0 ∷ 1 ∷ 7 ∷ [], 2 ∷ 0 ∷ 0 ∷ 0 ∷ 7 ∷ []))
+    ∷ ("the leading 1 in the record", (given 1, 0 ∷ 0 ∷ 1 ∷ 7 ∷ [], 2 ∷ 0 ∷ 0 ∷ 1 ∷ 7 ∷ []))
+    ∷ ("the rest of the 2n bytes left as it was", (given 1, 0 ∷ 0 ∷ 1 ∷ 7 ∷ [], 2 ∷ 0 ∷ 0 ∷ 7 ∷ 7 ∷ []))
+    ∷ ("columns for rows", (given 2, 0 ∷ 0 ∷ 1 ∷ 7 ∷ [], 1 ∷ 0 ∷ 1 ∷ 0 ∷ 7 ∷ []))
+    ∷ ("W grown by the row and not by its products with powers of M", (given 2, 0 ∷ 0 ∷ 0 ∷ 7 ∷ [], 2 ∷ 0 ∷ 0 ∷ 1 ∷ 7 ∷ []))
+    ∷ [])
+    -- the candidates in order, then the unit rows in order
+    ∷ tried (chain-reply 3 2 (1 ∷ 0 ∷ 0 ∷ 2 ∷ []) (0 ∷ 1 ∷ []) (sevens 4) (sevens 5)) (given 2, 2 ∷ 0 ∷ 1 ∷ 7 ∷ [], 1 ∷ 1 ∷ 1 ∷ 2 ∷ 7 ∷ [])
+    (("the unit rows first", (given 2, 2 ∷ 0 ∷ 1 ∷ 7 ∷ [], 1 ∷ 2 ∷ 1 ∷ 1 ∷ 7 ∷ [])) ∷ [])
+    ∷ tried (chain-reply 3 2 (1 ∷ 0 ∷ 0 ∷ 2 ∷ []) [] (sevens 4) (sevens 5)) (given 2, 2 ∷ 0 ∷ 1 ∷ 7 ∷ [], 1 ∷ 2 ∷ 1 ∷ 1 ∷ 7 ∷ [])
+    (("the unit rows from the last on", (given 2, 2 ∷ 0 ∷ 1 ∷ 7 ∷ [], 1 ∷ 1 ∷ 1 ∷ 2 ∷ 7 ∷ []))
+    ∷ ("no candidates, no stages", (given 0, 1 ∷ 0 ∷ 0 ∷ 7 ∷ [], 0 ∷ 0 ∷ 0 ∷ 0 ∷ 7 ∷ []))
+    ∷ numberedTwo "an empty list refused" (sevens 4) (sevens 5) (4 ∷ []))
+    -- the edges: 128 rows, 129; 258 for p, 257 for n
+    ∷ tried (chain-reply 2 1 (1 ∷ []) (replicate 128 0) (sevens 2) (sevens 2)) (given 1, 1 ∷ 1 ∷ [], 1 ∷ 1 ∷ [])
+    (numberedTwo "128 rows refused" (sevens 2) (sevens 2) (4 ∷ []))
+    ∷ tried (chain-reply 2 1 (1 ∷ []) (replicate 129 0) (sevens 2) (sevens 2)) (refused 4, sevens 2, sevens 2)
+    (("129 rows answered", (given 1, 1 ∷ 1 ∷ [], 1 ∷ 1 ∷ [])) ∷ [])
+    ∷ tried (chain-reply 258 1 (1 ∷ []) [] (sevens 2) (sevens 2)) (refused 1, sevens 2, sevens 2)
+    (("p = 258 cut to a byte and answered as 2", (given 1, 1 ∷ 1 ∷ [], 1 ∷ 1 ∷ [])) ∷ [])
+    ∷ tried (chain-reply 2 257 (1 ∷ []) [] (sevens 2) (sevens 2)) (refused 2, sevens 2, sevens 2)
+    (("n = 257 cut to a byte and answered as 1", (given 1, 1 ∷ 1 ∷ [], 1 ∷ 1 ∷ [])) ∷ [])
+    -- what is too short or too large is refused, and no lent byte changes
+    ∷ tried (chain-reply 3 2 (1 ∷ 0 ∷ 0 ∷ 2 ∷ []) (1 ∷ 0 ∷ 0 ∷ []) (sevens 4) (sevens 5)) (refused 4, sevens 4, sevens 5)
+    (("the whole rows of the list taken", (given 2, 2 ∷ 0 ∷ 1 ∷ 7 ∷ [], 1 ∷ 2 ∷ 1 ∷ 1 ∷ 7 ∷ []))
+    ∷ ("the first byte of the product buffer changed", (refused 4, 1 ∷ 7 ∷ 7 ∷ 7 ∷ [], sevens 5))
+    ∷ ("a byte beyond n + 1 changed in the product buffer", (refused 4, 7 ∷ 7 ∷ 7 ∷ 0 ∷ [], sevens 5))
+    ∷ ("the first byte of the stage buffer changed", (refused 4, sevens 4, 0 ∷ 7 ∷ 7 ∷ 7 ∷ 7 ∷ []))
+    ∷ ("a byte beyond 2n changed in the stage buffer", (refused 4, sevens 4, 7 ∷ 7 ∷ 7 ∷ 7 ∷ 0 ∷ []))
+    ∷ [])
+    ∷ tried (chain-reply 3 2 (1 ∷ 0 ∷ 0 ∷ 2 ∷ []) (3 ∷ 0 ∷ []) (sevens 4) (sevens 5)) (refused 5, sevens 4, sevens 5)
+    (("an entry p of a candidate taken for 0", (given 2, 2 ∷ 0 ∷ 1 ∷ 7 ∷ [], 1 ∷ 2 ∷ 1 ∷ 1 ∷ 7 ∷ [])) ∷ [])
+    ∷ tried (chain-reply 3 2 (1 ∷ 0 ∷ 0 ∷ 2 ∷ []) [] (sevens 2) (sevens 4)) (refused 6, sevens 2, sevens 4)
+    (("a product buffer of n bytes taken", (given 2, 2 ∷ 0 ∷ [], 1 ∷ 2 ∷ 1 ∷ 1 ∷ []))
+    ∷ ("the stages written by a refused call", (refused 6, sevens 2, 1 ∷ 2 ∷ 1 ∷ 1 ∷ []))
+    ∷ [])
+    ∷ tried (chain-reply 3 2 (0 ∷ 1 ∷ 2 ∷ 0 ∷ []) [] (sevens 3) (sevens 3)) (refused 6, sevens 3, sevens 3)
+    (("a stage buffer of 2n − 1 bytes taken, as the record is no longer", (given 1, 1 ∷ 0 ∷ 1 ∷ [], 2 ∷ 1 ∷ 0 ∷ []))
+    ∷ ("the product written by a refused call", (refused 6, 1 ∷ 0 ∷ 1 ∷ [], sevens 3))
+    ∷ [])
+    -- several faults at once
+    ∷ tried (chainLeft 4 65 (9 ∷ []) (9 ∷ []) [] []) (refused 1) (numbered "a later test's number" (2 ∷ 3 ∷ 4 ∷ 5 ∷ 6 ∷ []))
+    ∷ tried (chainLeft 3 65 (9 ∷ []) (9 ∷ []) [] []) (refused 2) (numbered "a later test's number" (3 ∷ 4 ∷ 5 ∷ 6 ∷ []))
+    ∷ tried (chainLeft 3 2 (9 ∷ []) (9 ∷ []) [] []) (refused 3) (numbered "a later test's number" (4 ∷ 5 ∷ 6 ∷ []))
+    ∷ tried (chainLeft 3 2 (9 ∷ 9 ∷ 9 ∷ 9 ∷ []) (9 ∷ []) [] []) (refused 4) (numbered "a later test's number" (5 ∷ 6 ∷ []))
+    ∷ tried (chainLeft 3 2 (9 ∷ 9 ∷ 9 ∷ 9 ∷ []) (9 ∷ 9 ∷ []) [] []) (refused 5) (numbered "a later test's number" (6 ∷ []))
+    ∷ tried (chainLeft 3 2 (0 ∷ 0 ∷ 0 ∷ 0 ∷ []) (0 ∷ 0 ∷ []) [] []) (refused 6) (numbered "another number" (0 ∷ 1 ∷ 2 ∷ 3 ∷ 4 ∷ 5 ∷ 7 ∷ 8 ∷ []))
+    ∷ []
+
+unfoldable pub wrongPeriods : List Trial
+wrongPeriods =
+    -- [1 0 | 0 2] modulo 3
+    tried (periodOn P8) (given (some 2))
+    (("none for a period that there is", given none)
+    ∷ ("the first unit row's return", given (some 1))
+    ∷ ("one too high", given (some 3))
+    ∷ ("twice the period", given (some 4))
+    ∷ ("counted from 0", given (some 0))
+    ∷ numbered "refused, and nothing is wrong" (0 ∷ 1 ∷ 2 ∷ 3 ∷ 4 ∷ 5 ∷ 6 ∷ 7 ∷ 8 ∷ []))
+    -- the identity; [0 1 | 2 0] modulo 3, whose square is −1; unit rows that return after 4 and after 2 ticks; a period over 255
+    ∷ tried (periodOn P6) (given (some 1))
+    (("the power 0", given (some 0)) ∷ ("the second power that is the identity", given (some 2)) ∷ ("none", given none) ∷ [])
+    ∷ tried (periodOn P5) (given (some 4)) (("the identity up to a scalar", given (some 2)) ∷ ("none", given none) ∷ [])
+    ∷ tried (period-reply 5 2 (2 ∷ 0 ∷ 0 ∷ 4 ∷ [])) (given (some 4))
+    (("the unit rows' returns multiplied", given (some 8)) ∷ ("the last unit row's return", given (some 2)) ∷ [])
+    ∷ tried (period-reply 17 2 (0 ∷ 1 ∷ 14 ∷ 1 ∷ [])) (given (some 288))
+    (("the period cut to a byte", given (some 32)) ∷ ("none over 255", given none) ∷ [])
+    -- no power of these is the identity
+    ∷ tried (periodOn P10) (given none)
+    (("a period for a matrix that has none", given (some 1))
+    ∷ ("the first power that comes again", given (some 2))
+    ∷ ("the end of the search", given (some 65536))
+    ∷ ("0 for none", given (some 0))
+    ∷ [])
+    ∷ tried (period-reply 3 2 (1 ∷ 0 ∷ 0 ∷ 0 ∷ [])) (given none) (("the first power that comes again", given (some 1)) ∷ [])
+    -- the edges of p and n, the matrix's length and entries
+    ∷ tried (period-reply 251 1 (250 ∷ [])) (given (some 2)) (("p = 251 refused", refused 1) ∷ [])
+    ∷ tried (period-reply 4 1 (3 ∷ [])) (refused 1) (("p = 4 answered", given (some 2)) ∷ [])
+    ∷ tried (period-reply 257 1 (256 ∷ [])) (refused 1) (("a prime over 251 answered", given (some 2)) ∷ [])
+    ∷ tried (period-reply 258 1 (1 ∷ [])) (refused 1) (("p = 258 cut to a byte and answered as 2", given (some 1)) ∷ [])
+    ∷ tried (period-reply 2 0 []) (refused 2) (("n = 0 answered", given (some 1)) ∷ [])
+    ∷ tried (period-reply 2 257 (1 ∷ [])) (refused 2) (("n = 257 cut to a byte and answered as 1", given (some 1)) ∷ [])
+    ∷ tried (period-reply 2 1 (1 ∷ 1 ∷ [])) (refused 3) (("the first n·n bytes taken", given (some 1)) ∷ [])
+    ∷ tried (period-reply 3 1 (4 ∷ [])) (refused 5) (("an entry over p reduced first", given (some 1)) ∷ [])
+    ∷ tried (period-reply 3 1 (3 ∷ [])) (refused 5) (("an entry p taken for 0", given none) ∷ [])
+    -- several faults at once
+    ∷ tried (period-reply 4 65 (9 ∷ [])) (refused 1) (numbered "a later test's number" (2 ∷ 3 ∷ 5 ∷ []))
+    ∷ tried (period-reply 3 65 (9 ∷ [])) (refused 2) (numbered "a later test's number" (3 ∷ 5 ∷ []))
+    ∷ tried (period-reply 3 2 (9 ∷ [])) (refused 3) (numbered "a later test's number" (5 ∷ []))
+    ∷ tried (period-reply 3 2 (9 ∷ 9 ∷ 9 ∷ 9 ∷ [])) (refused 5) (numbered "another number" (0 ∷ 1 ∷ 2 ∷ 3 ∷ 4 ∷ 6 ∷ 7 ∷ 8 ∷ []))
+    ∷ []
+
+unfoldable pub wrongAnswers : List Trial
+wrongAnswers = wrongInverses ++ (wrongOrders ++ (wrongImages ++ (wrongStands ++ (wrongChains ++ wrongPeriods))))

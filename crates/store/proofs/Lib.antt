@@ -1,0 +1,4 @@
+pub mod Put
+pub mod Stored
+pub mod Places
+pub mod Lending
