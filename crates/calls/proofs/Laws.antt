@@ -27,9 +27,10 @@ use Rattle.algebra.specs.Orders.{WithDegree, polys, product}
 use Rattle.algebra.proofs.Poly.{least-same}
 use Rattle.algebra.proofs.Orders.{multiples-kill, kills-multiples}
 use Rattle.meaning.specs.Bytes.{Small, row, polyOf, rows, times, bytes, write, padded}
+use Rattle.meaning.specs.Bounds.{widest, coefficients}
 use Rattle.meaning.specs.Polynomial.{image, IsOrder, IsLcm}
 use Rattle.meaning.specs.Stand.{Standing, proved, short, Tested, Outcome, IsStand, witnessRow, standingOf}
-use Rattle.meaning.specs.Chain.{IsChain, stageBytes}
+use Rattle.meaning.specs.Chain.{IsChain, stageBytes, stageRoom}
 use Rattle.meaning.specs.Calls.{refused, given, Called, OrderResult, StandResult, ChainResult}
 use Rattle.meaning.proofs.Bytes.{bytes-length, polyOf-coef, times-linear, front-bytes, take-zeros}
 use Rattle.meaning.proofs.Unique.{least-lcm}
@@ -37,7 +38,6 @@ use Rattle.meaning.proofs.Degrees.{orders-take, chain-record}
 use Rattle.poly.specs.Polynomial.{po}
 use Rattle.taken.specs.declared.Taken.{Taken}
 use Rattle.taken.specs.Gathered.{Gathered}
-use Rattle.stages.specs.Looking.{stageRoom}
 
 -- the whole call
 pub refused-by : {A B : Type 0} {q : Option ℕ} {R : A → B → Type 0} {old : B} {k : ℕ} → q ≡ some k → Called q R old (refused k) old
@@ -115,7 +115,7 @@ standing-short (suc w) h = refl
 
 -- the two buffers of the stand, written with the coefficients and with the image of the witness
 pub stand-written : {p n a : ℕ} {m cs img : List ℕ} {g : Taken} {s : Standing} {w : ℕ} {new : List ℕ × List ℕ} (k : ℕ) (old : List ℕ × List ℕ)
-    → Gathered p n m cs a g → Tested (times p n m) n (po p (g .poly)) (standingOf k) k → standingOf k ≡ s → k ≡ w → n + 1 ≤ 65
+    → Gathered p n m cs a g → Tested (times p n m) n (po p (g .poly)) (standingOf k) k → standingOf k ≡ s → k ≡ w → n + 1 ≤ coefficients
     → new .0 ≡ write (take (n + 1) (g .poly .c)) (old .0)
     → img ≡ bytes n (witnessRow (times p n m) (po p (g .poly)) (standingOf k) k) → new .1 ≡ write img (old .1)
     → StandResult p n m cs a old (outcomeOf g s w) new
@@ -137,14 +137,14 @@ padded-front (suc k) zero (x ∷ l) a b = absurd (omega arith)
 padded-front (suc k) (suc j) (x ∷ l) a b = simp suc-sub-suc (ap (λ t. x ∷ t) (padded-front k j l (omega arith) (omega arith)))
 
 pub chain-written : {p count : ℕ} {bs : List ℕ} {new : List ℕ × List ℕ} (n : ℕ) (m cs c : List ℕ) (st : List (WithDegree p))
-    (old : List ℕ × List ℕ) → Prime p → n ≤ 64 → IsChain p n m cs st → count ≡ length st → coef (polyOf p c) ≡ coef (product st) → Small p c
+    (old : List ℕ × List ℕ) → Prime p → n ≤ widest → IsChain p n m cs st → count ≡ length st → coef (polyOf p c) ≡ coef (product st) → Small p c
     → n + 1 ≤ length c → new .0 ≡ write (take (n + 1) c) (old .0)
-    → bs ≡ padded stageRoom (stageBytes st) → new .1 ≡ write (take (2 * n) bs) (old .1) → ChainResult p n m cs old count new
+    → bs ≡ padded (stageRoom widest) (stageBytes st) → new .1 ≡ write (take (stageRoom n) bs) (old .1) → ChainResult p n m cs old count new
 chain-written {p} n m cs c st old P b A q v h l e w k = record {
   stages = st;
   chain = A;
   number = q;
   product = e ∙ ap (λ b. write b (old .0)) (coefficient-bytes p n c h l ∙ ap (bytes (suc n)) v);
   record-bytes = k
-      ∙ ap (λ b. write b (old .1)) (ap (take (2 * n)) w ∙ padded-front (2 * n) stageRoom (stageBytes st) (chain-record P n m cs st A) (omega arith));
+      ∙ ap (λ b. write b (old .1)) (ap (take (stageRoom n)) w ∙ padded-front (stageRoom n) (stageRoom widest) (stageBytes st) (chain-record P n m cs st A) (omega arith));
 }

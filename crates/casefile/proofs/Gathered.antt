@@ -15,6 +15,7 @@ use lib.ListN.{length, length-append}
 use Rattle.meaning.specs.Case.{Record, Case, allowRecord, records, RowsOf, WellFormed}
 use Rattle.meaning.specs.Case.Record.{field, allow, row, candidate, end}
 use Rattle.meaning.proofs.Case.{flatten-length}
+use Rattle.meaning.specs.Bounds.{mostCandidates, widest}
 use Rattle.casefile.specs.Gathered.{noValues, noted, notedAll, gathered, Behind, RoomFor}
 
 pub notedAll-append : (g : Case) (xs ys : List Record) → notedAll g (xs ++ ys) ≡ notedAll (notedAll g xs) ys
@@ -90,14 +91,14 @@ rows-last : (p n : ℕ) (xs : List (List ℕ)) (l : List ℕ) → RowsOf p n (xs
 rows-last p n [] l r = r .0 .0
 rows-last p n (x ∷ xs) l r = rows-last p n xs l (r .1)
 
-rows-behind : (p n most : ℕ) (whole xs ys : List (List ℕ)) (l : List ℕ) → RowsOf p n whole → whole ≡ (xs ++ (l ∷ [])) ++ ys → length whole ≤ most → n ≤ 64
-    → Behind (length xs) most (most * 64) (flatten xs) l
+rows-behind : (p n most : ℕ) (whole xs ys : List (List ℕ)) (l : List ℕ) → RowsOf p n whole → whole ≡ (xs ++ (l ∷ [])) ++ ys → length whole ≤ most → n ≤ widest
+    → Behind (length xs) most (most * widest) (flatten xs) l
 rows-behind p n most whole xs ys l r e few small =
     let these : RowsOf p n (xs ++ (l ∷ [])) = rows-front p n (xs ++ (l ∷ [])) ys (subst (RowsOf p n) e r) in
     let size = flatten-length p n xs (rows-front p n xs (l ∷ []) these) in
     let long : length l ≡ n = rows-last p n xs l these in
     let fewer : length xs < most = omega (arith, ap length e, length-append (xs ++ (l ∷ [])) ys, length-append xs (l ∷ [])) in
-    let most-bytes : suc (length xs) * n ≤ most * 64 = mul-le-mul fewer small in
+    let most-bytes : suc (length xs) * n ≤ most * widest = mul-le-mul fewer small in
     record { fewer = fewer; place = size ∙ ap (λ k. length xs * k) (sym long); fits = omega (arith, suc-mul (length xs) n) }
 
 pub record Starts (xs : List Record) (x : Record) : Type 0 where
@@ -117,10 +118,10 @@ starts-room xs (row l) f =
     let w = f .well-formed in
     let g : Case = gathered xs in
     let i = notedAll-matrix (noted g (row l)) (f .to-come) in
-    rows-behind (f .case .p) (f .case .n) 64 (f .case .matrix) (g .matrix) (i .0) l (w .rows) (ap (λ (c : Case). c .matrix) (starts-noted f) ∙ i .1) (omega (arith, w .square, w .most)) (w .most)
+    rows-behind (f .case .p) (f .case .n) widest (f .case .matrix) (g .matrix) (i .0) l (w .rows) (ap (λ (c : Case). c .matrix) (starts-noted f) ∙ i .1) (omega (arith, w .square, w .most)) (w .most)
 starts-room xs (candidate l) f =
     let w = f .well-formed in
     let g : Case = gathered xs in
     let i = notedAll-listed (noted g (candidate l)) (f .to-come) in
-    rows-behind (f .case .p) (f .case .n) 128 (f .case .candidates) (g .candidates) (i .0) l (w .listed) (ap (λ (c : Case). c .candidates) (starts-noted f) ∙ i .1) (w .few) (w .most)
+    rows-behind (f .case .p) (f .case .n) mostCandidates (f .case .candidates) (g .candidates) (i .0) l (w .listed) (ap (λ (c : Case). c .candidates) (starts-noted f) ∙ i .1) (w .few) (w .most)
 starts-room xs end f = tt

@@ -18,7 +18,8 @@ use lib.Seq.{paste, paste-zero, paste-suc, take-length}
 use types.Run.{OneOf, miss}
 use denote.Enum.Declared.{tagOf}
 use Rattle.meaning.specs.Bytes.{padded}
-use Rattle.meaning.specs.Case.{Record, matrixBytes, candidateBytes}
+use Rattle.meaning.specs.Bounds.{mostCandidates, widest}
+use Rattle.meaning.specs.Case.{Record, matrixBytes, candidateBytes, radix}
 use Rattle.meaning.specs.Case.Record.{row, candidate, end}
 use Rattle.meaning.proofs.Bytes.{padded-turn}
 use Rattle.reader.specs.declared.Step.{Step}
@@ -72,11 +73,11 @@ hands-as {s} {r} w e h = let z : some (w .next) ≡ some _ = sym (w .hands) ∙ 
 
 -- one more row behind those so far
 row-behind : {s : List ℕ} {r : Stepped} {v : Numbers} {m cs l : List ℕ} (w : Noting s r v m cs) → r .step ≡ step.Row → l ≡ entriesIn s r
-    → Behind (length (w .values .matrix)) 64 matrixRoom (matrixBytes (w .values)) l
+    → Behind (length (w .values .matrix)) widest matrixRoom (matrixBytes (w .values)) l
 row-behind {l = l} w e f = subst (RoomFor (w .values)) (hands-as w e (ap (λ t. some (row t)) (sym f))) (w .room)
 
 candidate-behind : {s : List ℕ} {r : Stepped} {v : Numbers} {m cs l : List ℕ} (w : Noting s r v m cs) → r .step ≡ step.Candidate → l ≡ entriesIn s r
-    → Behind (length (w .values .candidates)) 128 candidateRoom (candidateBytes (w .values)) l
+    → Behind (length (w .values .candidates)) mostCandidates candidateRoom (candidateBytes (w .values)) l
 candidate-behind {l = l} w e f = subst (RoomFor (w .values)) (hands-as w e (ap (λ t. some (candidate t)) (sym f))) (w .room)
 
 -- there is room for it in its buffer: k rows come before it
@@ -90,11 +91,11 @@ behind-fitting {k} {l = l} j B e =
     record { fewer = omega (arith, B .fewer); fits = omega (arith, B .place, B .fits) }
 
 pub row-fitting : {s : List ℕ} {r : Stepped} {v : Numbers} {m cs l : List ℕ} → Noting s r v m cs → r .step ≡ step.Row → l ≡ entriesIn s r
-    → Fitting (v .rows) 64 matrixRoom l
+    → Fitting (v .rows) widest matrixRoom l
 row-fitting {v = v} w e f = behind-fitting (v .rows) (row-behind w e f) (w .holds .rows)
 
 pub candidate-fitting : {s : List ℕ} {r : Stepped} {v : Numbers} {m cs l : List ℕ} → Noting s r v m cs → r .step ≡ step.Candidate → l ≡ entriesIn s r
-    → Fitting (v .count) 128 candidateRoom l
+    → Fitting (v .count) mostCandidates candidateRoom l
 candidate-fitting {v = v} w e f = behind-fitting (v .count) (candidate-behind w e f) (w .holds .count)
 
 -- what is held then
@@ -114,7 +115,7 @@ noted-field {m = m} {cs = cs} e w =
     })
 
 pub noted-allow : {s : List ℕ} {r : Stepped} {v : Numbers} {m cs : List ℕ} {high low : ℕ} → r .step ≡ step.Allow high low
-    → Noted s r v m cs (record { p = v .p; n = v .n; allowance = 128 * high + low; rows = v .rows; count = v .count }) m cs
+    → Noted s r v m cs (record { p = v .p; n = v .n; allowance = radix * high + low; rows = v .rows; count = v .count }) m cs
 noted-allow {m = m} {cs = cs} e w =
     let H = w .holds in
     subst (λ x. Stored (noted (w .values) x) _ m cs) (sym (hands-as w e refl))

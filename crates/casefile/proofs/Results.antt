@@ -11,6 +11,7 @@ use Prim.Native.Nat.{ℕ, _*_, _≤_}
 use native.Mathlib.Nat.{mul-le-mul}
 use lib.ListN.{length}
 use Rattle.meaning.specs.Bytes.{padded}
+use Rattle.meaning.specs.Bounds.{mostCandidates, widest}
 use Rattle.meaning.specs.Case.{Case, allowanceOf, matrixBytes, candidateBytes}
 use Rattle.casefile.specs.declared.Reading.{Reading}
 use Rattle.casefile.specs.declared.Reading.the-variants as answer
@@ -22,10 +23,10 @@ use Rattle.reader.proofs.Steps.{steps-case, steps-refused}
 use Rattle.scan.proofs.Place.{place-unique}
 use Rattle.scan.proofs.Unique.{case-unique}
 
-pub read-within : {s : List ℕ} {r : Contents} {p n a k : ℕ} → ReadIs s r → r .answer ≡ answer.Case p n a k → (n ≤ 64) × (k ≤ 128)
+pub read-within : {s : List ℕ} {r : Contents} {p n a k : ℕ} → ReadIs s r → r .answer ≡ answer.Case p n a k → (n ≤ widest) × (k ≤ mostCandidates)
 read-within (reads c W v x y) e =
     let q = Option·some-injective _ _ (sym v ∙ ap valuesOf e) in
-    (subst (λ i. i ≤ 64) (ap (λ t. t .1) q) (W .well-formed .most), subst (λ i. i ≤ 128) (ap (λ t. t .3) q) (W .well-formed .few))
+    (subst (λ i. i ≤ widest) (ap (λ t. t .1) q) (W .well-formed .most), subst (λ i. i ≤ mostCandidates) (ap (λ t. t .3) q) (W .well-formed .few))
 read-within (refuses j W P v x y) e = absurd (Option·none-ne-some _ (sym (ap readRefusal e) ∙ v))
 
 pub read-sizes : {s : List ℕ} {r : Contents} {p n a k : ℕ} → ReadIs s r → r .answer ≡ answer.Case p n a k → (n * n ≤ matrixRoom) × (k * n ≤ candidateRoom)

@@ -15,6 +15,7 @@ use mathlib.Core.Option.{none, some}
 use Prim.Native.Nat.{ℕ, _+_, _*_, _<_, _≤_}
 use lib.ListN.{length}
 use Rattle.meaning.specs.Bytes.{padded}
+use Rattle.meaning.specs.Bounds.{mostCandidates, widest}
 use Rattle.meaning.specs.Case.{Record, Case, allowanceOf, matrixBytes, candidateBytes}
 use Rattle.meaning.specs.Case.Record.{field, allow, row, candidate, end}
 use Rattle.reader.specs.declared.Stepped.{Stepped}
@@ -56,8 +57,8 @@ pub record Behind (k most room : ℕ) (bs l : List ℕ) : Type 0 where
 abbrev pub RoomFor : Case → Record → Type 0
 RoomFor g (field p n) = Unit {0}
 RoomFor g (allow high low) = Unit {0}
-RoomFor g (row l) = Behind (length (g .matrix)) 64 matrixRoom (matrixBytes g) l
-RoomFor g (candidate l) = Behind (length (g .candidates)) 128 candidateRoom (candidateBytes g) l
+RoomFor g (row l) = Behind (length (g .matrix)) widest matrixRoom (matrixBytes g) l
+RoomFor g (candidate l) = Behind (length (g .candidates)) mostCandidates candidateRoom (candidateBytes g) l
 RoomFor g end = Unit {0}
 
 pub record Noting (s : List ℕ) (r : Stepped) (v : Numbers) (m cs : List ℕ) : Type 0 where

@@ -13,6 +13,7 @@ use mathlib.Core.Option.{Option, none, some}
 use Prim.Native.Nat.{ℕ, _*_}
 use lib.ListN.{length, replicate}
 use Rattle.meaning.specs.Bytes.{padded}
+use Rattle.meaning.specs.Bounds.{mostCandidates, widest}
 use Rattle.meaning.specs.Case.{Case, records, IsCase, allowanceOf, matrixBytes, candidateBytes, Place}
 use Rattle.reader.specs.declared.Step.the-variants.{Over}
 use Rattle.reader.specs.Step.{Ends, Stops}
@@ -21,10 +22,10 @@ use Rattle.casefile.specs.declared.Reading.the-variants as answer
 use Rattle.casefile.specs.declared.Contents.{Contents}
 
 abbrev pub matrixRoom : ℕ
-matrixRoom = 64 * 64
+matrixRoom = widest * widest
 
 abbrev pub candidateRoom : ℕ
-candidateRoom = 128 * 64
+candidateRoom = mostCandidates * widest
 
 abbrev pub valuesOf : Reading → Option (ℕ × ℕ × ℕ × ℕ)
 valuesOf (answer.Case p n allowance count) = some (p, n, allowance, count)

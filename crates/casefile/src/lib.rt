@@ -5,14 +5,17 @@ ghost use lib.ListN.{length};
 ghost use lib.Seq.{paste};
 ghost use Rattle.casefile.specs.Gathered.{Noting, Noted};
 ghost use Rattle.casefile.specs.Reading.{ReadIs};
+use meaning::MOST_CANDIDATES;
+use meaning::RADIX;
+use meaning::WIDEST;
 use reader::Step;
 use reader::Stepped;
 
 // Bytes enough for the matrix of any case.
-const MATRIX_ROOM: usize = 64 * 64;
+const MATRIX_ROOM: usize = WIDEST * WIDEST;
 
 // Bytes enough for the candidates of any case.
-const CANDIDATE_ROOM: usize = 128 * 64;
+const CANDIDATE_ROOM: usize = MOST_CANDIDATES * WIDEST;
 
 // The allowance without an A record.
 const DEFAULT_ALLOWANCE: u32 = 8192;
@@ -74,7 +77,7 @@ fn note(s: &[u8], r: Stepped, known: Numbers, m: &mut [u8], cs: &mut [u8]) -> Nu
             count: known.count,
         },
         Step::Allow { high, low } => {
-            let allowed = 128 * (high as u32) + low as u32;
+            let allowed = RADIX * (high as u32) + low as u32;
             Numbers {
                 p: known.p,
                 n: known.n,

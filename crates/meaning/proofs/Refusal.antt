@@ -25,7 +25,8 @@ use Rattle.algebra.specs.Field.{Prime}
 use Rattle.meaning.specs.Refusal.{allBelow, isPrime, every, noPrime, noSize, noMatrix, noRows, noVector, noPolynomial, badEntry, tooShort, first}
 use Rattle.meaning.specs.Refusal.{inverseRefusal, orderRefusal, imageRefusal, standRefusal, chainRefusal, periodRefusal}
 use Rattle.meaning.specs.Bytes.{Small}
-use Rattle.meaning.specs.Bounds.{Sound, SoundRows}
+use Rattle.meaning.specs.Bounds.{largestPrime, mostCandidates, coefficients, widest, Sound, SoundRows}
+use Rattle.meaning.specs.Chain.{stageRoom}
 
 -- tests joined
 or-false : (a b : Bool) → (a || b) ≡ false → (a ≡ false) × (b ≡ false)
@@ -56,17 +57,17 @@ true-allBelow zero t h = refl
 true-allBelow (suc k) t h = and-eq-true-iff (t k) _ .1 (h k (le-refl _), true-allBelow k t (λ a l. h a (le-step l)))
 
 -- the prime test is right, both ways
-pub isPrime-prime : (p : ℕ) → isPrime p ≡ true → Prime p × (p ≤ 251)
+pub isPrime-prime : (p : ℕ) → isPrime p ≡ true → Prime p × (p ≤ largestPrime)
 unfolding isPrime
 isPrime-prime p q =
     let t = and-eq-true-iff (leb 2 p) _ .0 q in
-    let u = and-eq-true-iff (leb p 251) _ .0 (t .1) in
+    let u = and-eq-true-iff (leb p largestPrime) _ .0 (t .1) in
     let all = allBelow-true p _ (u .1) in
-    (record { big = leb-true 2 p (t .0); irr = λ a g h. eqb-false (p % a) 0 (not-true _ (rw (lt-leb a 1 g) at (all a h))) }, leb-true p 251 (u .0))
+    (record { big = leb-true 2 p (t .0); irr = λ a g h. eqb-false (p % a) 0 (not-true _ (rw (lt-leb a 1 g) at (all a h))) }, leb-true p largestPrime (u .0))
 
-pub prime-isPrime : (p : ℕ) → Prime p → p ≤ 251 → isPrime p ≡ true
+pub prime-isPrime : (p : ℕ) → Prime p → p ≤ largestPrime → isPrime p ≡ true
 unfolding isPrime
-prime-isPrime p P h = rw (le-leb 2 p (P .big), le-leb p 251 h) (true-allBelow p _ at)
+prime-isPrime p P h = rw (le-leb 2 p (P .big), le-leb p largestPrime h) (true-allBelow p _ at)
   where
     at : (a : ℕ) → a < p → (leb a 1 || not (eqb (p % a) 0)) ≡ true
     at a l =
@@ -76,21 +77,21 @@ prime-isPrime p P h = rw (le-leb 2 p (P .big), le-leb p 251 h) (true-allBelow p 
         ]
 
 -- each test of the table, both ways: it does not apply exactly when its input is good
-pub noPrime-false : (p : ℕ) → noPrime p ≡ false → Prime p × (p ≤ 251)
+pub noPrime-false : (p : ℕ) → noPrime p ≡ false → Prime p × (p ≤ largestPrime)
 unfolding noPrime
 noPrime-false p q = isPrime-prime p (not-false _ q)
 
-pub prime-noPrime : (p : ℕ) → Prime p → p ≤ 251 → noPrime p ≡ false
+pub prime-noPrime : (p : ℕ) → Prime p → p ≤ largestPrime → noPrime p ≡ false
 unfolding noPrime
 prime-noPrime p P h = ap not (prime-isPrime p P h)
 
-pub noSize-false : (n : ℕ) → noSize n ≡ false → (1 ≤ n) × (n ≤ 64)
+pub noSize-false : (n : ℕ) → noSize n ≡ false → (1 ≤ n) × (n ≤ widest)
 unfolding noSize
-noSize-false n q = between-true 1 n 64 q
+noSize-false n q = between-true 1 n widest q
 
-pub size-noSize : (n : ℕ) → 1 ≤ n → n ≤ 64 → noSize n ≡ false
+pub size-noSize : (n : ℕ) → 1 ≤ n → n ≤ widest → noSize n ≡ false
 unfolding noSize
-size-noSize n h k = between-false 1 n 64 h k
+size-noSize n h k = between-false 1 n widest h k
 
 pub noMatrix-false : (n : ℕ) (m : List ℕ) → noMatrix n m ≡ false → length m ≡ n * n
 unfolding noMatrix
@@ -100,16 +101,16 @@ pub matrix-noMatrix : (n : ℕ) (m : List ℕ) → length m ≡ n * n → noMatr
 unfolding noMatrix
 matrix-noMatrix n m q = ap not (eq-eqb (length m) (n * n) q)
 
-pub noRows-false : (n : ℕ) (cs : List ℕ) → 0 < n → noRows n cs ≡ false → (length cs ≡ length cs / n * n) × (length cs / n ≤ 128)
+pub noRows-false : (n : ℕ) (cs : List ℕ) → 0 < n → noRows n cs ≡ false → (length cs ≡ length cs / n * n) × (length cs / n ≤ mostCandidates)
 unfolding noRows
 noRows-false n cs h q =
     let t = both-true _ _ q in
-    (sym (div-add-mod' (length cs) n) ∙ ap (λ r. length cs / n * n + r) (eqb-true _ 0 (t .0)) ∙ add-zero _, leb-true _ 128 (t .1))
+    (sym (div-add-mod' (length cs) n) ∙ ap (λ r. length cs / n * n + r) (eqb-true _ 0 (t .0)) ∙ add-zero _, leb-true _ mostCandidates (t .1))
 
-pub rows-noRows : (n : ℕ) (cs : List ℕ) → 0 < n → (k : ℕ) → length cs ≡ k * n → k ≤ 128 → noRows n cs ≡ false
+pub rows-noRows : (n : ℕ) (cs : List ℕ) → 0 < n → (k : ℕ) → length cs ≡ k * n → k ≤ mostCandidates → noRows n cs ≡ false
 unfolding noRows
 rows-noRows n cs h k q j =
-    rw (eq-eqb (length cs % n) 0 (ap (λ c. c % n) q ∙ mul-mod-left k n), div-eq-of-eq-mul-left h q, le-leb k 128 j)
+    rw (eq-eqb (length cs % n) 0 (ap (λ c. c % n) q ∙ mul-mod-left k n), div-eq-of-eq-mul-left h q, le-leb k mostCandidates j)
 
 pub noVector-false : (n : ℕ) (v : List ℕ) → noVector n v ≡ false → length v ≡ n
 unfolding noVector
@@ -119,13 +120,13 @@ pub vector-noVector : (n : ℕ) (v : List ℕ) → length v ≡ n → noVector n
 unfolding noVector
 vector-noVector n v q = ap not (eq-eqb (length v) n q)
 
-pub noPolynomial-false : (f : List ℕ) → noPolynomial f ≡ false → (1 ≤ length f) × (length f ≤ 65)
+pub noPolynomial-false : (f : List ℕ) → noPolynomial f ≡ false → (1 ≤ length f) × (length f ≤ coefficients)
 unfolding noPolynomial
-noPolynomial-false f q = between-true 1 (length f) 65 q
+noPolynomial-false f q = between-true 1 (length f) coefficients q
 
-pub polynomial-noPolynomial : (f : List ℕ) → 1 ≤ length f → length f ≤ 65 → noPolynomial f ≡ false
+pub polynomial-noPolynomial : (f : List ℕ) → 1 ≤ length f → length f ≤ coefficients → noPolynomial f ≡ false
 unfolding noPolynomial
-polynomial-noPolynomial f h k = between-false 1 (length f) 65 h k
+polynomial-noPolynomial f h k = between-false 1 (length f) coefficients h k
 
 pub badEntry-false : (p : ℕ) (l : List ℕ) → badEntry p l ≡ false → Small p l
 unfolding badEntry every
@@ -188,7 +189,7 @@ rows-sound p n m cs j a k b q =
     let r = noRows-false n cs (A .some-size) (c 3) in
     (A, record { whole = r .0; few = r .1; entries = badEntry-false p cs (g .1) }, tooShort-false j a (s .0), tooShort-false k b (s .1))
 
-pub inverse-sound : (p a : ℕ) → inverseRefusal p a ≡ none → Prime p × (p ≤ 251) × (a < p)
+pub inverse-sound : (p a : ℕ) → inverseRefusal p a ≡ none → Prime p × (p ≤ largestPrime) × (a < p)
 unfolding inverseRefusal
 inverse-sound p a q =
     let c = first-clear _ q in
@@ -204,7 +205,7 @@ order-sound p n m v out q =
     (A, noVector-false n v (c 3), badEntry-false p v (g .1), tooShort-false (n + 1) out (c 5))
 
 pub image-sound : (p n : ℕ) (m v f out : List ℕ) → imageRefusal p n m v f out ≡ none
-    → Sound p n m × (length v ≡ n) × (1 ≤ length f) × (length f ≤ 65) × Small p v × Small p f × (n ≤ length out)
+    → Sound p n m × (length v ≡ n) × (1 ≤ length f) × (length f ≤ coefficients) × Small p v × Small p f × (n ≤ length out)
 unfolding imageRefusal
 image-sound p n m v f out q =
     let c = first-clear _ q in
@@ -220,9 +221,9 @@ unfolding standRefusal
 stand-sound p n m cs poly image q = rows-sound p n m cs (n + 1) poly n image q
 
 pub chain-sound : (p n : ℕ) (m cs product stages : List ℕ) → chainRefusal p n m cs product stages ≡ none
-    → Sound p n m × SoundRows p n cs × (n + 1 ≤ length product) × (2 * n ≤ length stages)
+    → Sound p n m × SoundRows p n cs × (n + 1 ≤ length product) × (stageRoom n ≤ length stages)
 unfolding chainRefusal
-chain-sound p n m cs product stages q = rows-sound p n m cs (n + 1) product (2 * n) stages q
+chain-sound p n m cs product stages q = rows-sound p n m cs (n + 1) product (stageRoom n) stages q
 
 pub period-sound : (p n : ℕ) (m : List ℕ) → periodRefusal p n m ≡ none → Sound p n m
 unfolding periodRefusal
@@ -239,13 +240,13 @@ sound-stand p n m cs poly image A B h k =
     (rw (rows-noRows n cs (A .some-size) _ (B .whole) (B .few), small-badEntry p m (A .entries), small-badEntry p cs (B .entries))
     (rw (long-tooShort (n + 1) poly h, long-tooShort n image k)))
 
-pub sound-chain : (p n : ℕ) (m cs product stages : List ℕ) → Sound p n m → SoundRows p n cs → n + 1 ≤ length product → 2 * n ≤ length stages
+pub sound-chain : (p n : ℕ) (m cs product stages : List ℕ) → Sound p n m → SoundRows p n cs → n + 1 ≤ length product → stageRoom n ≤ length stages
     → chainRefusal p n m cs product stages ≡ none
 unfolding chainRefusal first
 sound-chain p n m cs product stages A B h k =
     rw (prime-noPrime p (A .prime) (A .most), size-noSize n (A .some-size) (A .size), matrix-noMatrix n m (A .matrix))
     (rw (rows-noRows n cs (A .some-size) _ (B .whole) (B .few), small-badEntry p m (A .entries), small-badEntry p cs (B .entries))
-    (rw (long-tooShort (n + 1) product h, long-tooShort (2 * n) stages k)))
+    (rw (long-tooShort (n + 1) product h, long-tooShort (stageRoom n) stages k)))
 
 pub sound-period : (p n : ℕ) (m : List ℕ) → Sound p n m → periodRefusal p n m ≡ none
 unfolding periodRefusal first

@@ -19,7 +19,7 @@ use Rattle.algebra.specs.Orders.{WithDegree, product, degrees}
 use Rattle.algebra.proofs.Chain.{stages-positive}
 use Rattle.meaning.specs.Ascii.{ascii}
 use Rattle.meaning.specs.Bytes.{times, rows, e, bytes, Small}
-use Rattle.meaning.specs.Bounds.{Sound, SoundRows}
+use Rattle.meaning.specs.Bounds.{largestPrime, mostCandidates, widest, Sound, SoundRows}
 use Rattle.meaning.specs.Stand.{Standing, proved, short, Outcome, Tested}
 use Rattle.meaning.specs.Period.{longest, IsPeriod}
 use Rattle.meaning.specs.Line.{decimal, Line, spaced, lineBytes, text}
@@ -39,7 +39,7 @@ unfolding lineBytes
 line-length w l = length-append (ascii w) (spaced l ++ (10 ∷ [])) ∙ ap (λ k. length (ascii w) + k) (length-append (spaced l) (10 ∷ []))
 
 -- a line of bytes below p, counted with three digits for each
-bytes-line : {p : ℕ} → 0 < p → p ≤ 251 → (w : String) (n : ℕ) (s : S p)
+bytes-line : {p : ℕ} → 0 < p → p ≤ largestPrime → (w : String) (n : ℕ) (s : S p)
     → length (lineBytes (record { word = w; numbers = bytes n s })) ≤ length (ascii w) + (4 * n + 1)
 bytes-line {p} h b w n s =
     omega (arith, line-length w (bytes n s), spaced-length p (bytes n s) (omega arith) (bytes-small h n s), bytes-length n s)
@@ -67,8 +67,8 @@ three-lines : {i j k : ℕ} (x y z : Line) → length (lineBytes x) ≤ i → le
 unfolding text
 three-lines x y z a b c = omega (arith, text-length x (y ∷ z ∷ []), text-length y (z ∷ []), text-length z [])
 
-pub standLines-length : {p : ℕ} (n : ℕ) (X : S p → S p) (s : Standing) (r : Outcome) (f : Poly p) → 0 < p → p ≤ 251 → n ≤ 64
-    → r .taken ≤ 128 → r .spent < 10 ^ 10 → r .degree ≤ n → (s ≡ short → r .witness ≤ n) → length (text (standLines n X s r f)) ≤ 564
+pub standLines-length : {p : ℕ} (n : ℕ) (X : S p → S p) (s : Standing) (r : Outcome) (f : Poly p) → 0 < p → p ≤ largestPrime → n ≤ widest
+    → r .taken ≤ mostCandidates → r .spent < 10 ^ 10 → r .degree ≤ n → (s ≡ short → r .witness ≤ n) → length (text (standLines n X s r f)) ≤ 564
 unfolding spaced
 standLines-length n X proved r f h b q t s d w =
     let c = pair-line "STAND proved" (r .taken) (r .spent) (omega arith) s in
@@ -91,7 +91,7 @@ standLines-length {p} n X short r f h b q t s d w =
     ) in
     le-trans (three-lines _ _ _ c g v) (omega arith)
 
-pub stageLines-length : {p : ℕ} (st : List (WithDegree p)) → 0 < p → p ≤ 251 → length (text (map stageLine st)) ≤ 10 * length st + 4 * degrees st
+pub stageLines-length : {p : ℕ} (st : List (WithDegree p)) → 0 < p → p ≤ largestPrime → length (text (map stageLine st)) ≤ 10 * length st + 4 * degrees st
 unfolding degrees text
 stageLines-length [] h b = omega arith
 stageLines-length (s ∷ st) h b =
@@ -133,7 +133,7 @@ sheetLines-room {p} n m cs a xs A B h L =
     let f = L .poly in
     let st = L .stages in
     let F = L .stand in
-    let counted : r .taken ≤ 128 = omega (arith, F .front .within, orders-count X (rows p n cs) (F .orders) (F .each), rows-count p n cs, B .few) in
+    let counted : r .taken ≤ mostCandidates = omega (arith, F .front .within, orders-count X (rows p n cs) (F .orders) (F .each), rows-count p n cs, B .few) in
     let paid : r .spent < 10 ^ 10 = omega (arith, F .spent, F .front .affordable) in
     let field = pair-line "FIELD" p n (omega (arith, A .most)) (omega (arith, A .size)) in
     let positive : 0 < p = omega (arith, P .big) in

@@ -12,14 +12,14 @@
 use mathlib.Core.Path.{_≡_}
 use mathlib.Core.List.{List}
 use mathlib.Core.Option.{Option, none, some}
-use Prim.Native.Nat.{ℕ, suc, _*_}
+use Prim.Native.Nat.{ℕ, suc}
 use lib.ListN.{length}
 use Rattle.algebra.specs.Poly.{Poly, coef}
 use Rattle.algebra.specs.Orders.{WithDegree, product}
 use Rattle.meaning.specs.Bytes.{row, polyOf, times, bytes, write, padded}
 use Rattle.meaning.specs.Polynomial.{image, IsOrder}
 use Rattle.meaning.specs.Stand.{Outcome, IsStand, witnessRow}
-use Rattle.meaning.specs.Chain.{IsChain, stageBytes}
+use Rattle.meaning.specs.Chain.{IsChain, stageBytes, stageRoom}
 use Rattle.meaning.specs.Inverse.{IsInverse}
 use Rattle.meaning.specs.Period.{IsPeriod}
 use Rattle.meaning.specs.Refusal.{inverseRefusal, orderRefusal, imageRefusal, standRefusal, chainRefusal, periodRefusal}
@@ -62,7 +62,7 @@ pub record ChainResult (p n : ℕ) (m cs : List ℕ) (old : List ℕ × List ℕ
   pub chain : IsChain p n m cs stages
   pub number : count ≡ length stages
   pub product : new .0 ≡ write (bytes (suc n) (coef (product stages))) (old .0)
-  pub record-bytes : new .1 ≡ write (padded (2 * n) (stageBytes stages)) (old .1)
+  pub record-bytes : new .1 ≡ write (padded (stageRoom n) (stageBytes stages)) (old .1)
 
 abbrev pub ChainCall : ℕ → ℕ → List ℕ → List ℕ → List ℕ × List ℕ → Answer ℕ → List ℕ × List ℕ → Type 0
 ChainCall p n m cs old = Called (chainRefusal p n m cs (old .0) (old .1)) (ChainResult p n m cs old) old

@@ -7,6 +7,7 @@
 --   records c      F, then at most one A, then the R records, then the C records, then E
 --   caseBytes c    the bytes of a case
 --   RowsOf p n rs  each of rs is a row of n entries below p
+--   radix          128: the allowance is written as two halves to this base
 --   Halves a       both halves of the allowance, where there is one, are 0 to 127
 --   WellFormed c   p, n and every entry are in the ranges of 01, with n R records and at most 128 C records
 --   defaultAllowance   the allowance without an A record
@@ -27,6 +28,7 @@ use mathlib.Core.Option.{Option, none, some}
 use Prim.Native.Nat.{ℕ, suc, _+_, _*_, _<_, _≤_}
 use lib.ListN.{length, take}
 use Rattle.meaning.specs.Bytes.{Small}
+use Rattle.meaning.specs.Bounds.{widest, mostCandidates}
 use Rattle.meaning.specs.Refusal.{isPrime}
 
 pub data Record : Type 0 where
@@ -68,18 +70,21 @@ abbrev pub RowsOf : ℕ → ℕ → List (List ℕ) → Type 0
 RowsOf p n [] = Unit {0}
 RowsOf p n (r ∷ rs) = ((length r ≡ n) × Small p r) × RowsOf p n rs
 
+abbrev pub radix : ℕ
+radix = 128
+
 abbrev pub Halves : Option (ℕ × ℕ) → Type 0
 Halves none = Unit {0}
-Halves (some a) = (a .0 < 128) × (a .1 < 128)
+Halves (some a) = (a .0 < radix) × (a .1 < radix)
 
 pub record WellFormed (c : Case) : Type 0 where
   pub prime : isPrime (c .p) ≡ true
   pub least : 1 ≤ c .n
-  pub most : c .n ≤ 64
+  pub most : c .n ≤ widest
   pub halves : Halves (c .allowance)
   pub square : length (c .matrix) ≡ c .n
   pub rows : RowsOf (c .p) (c .n) (c .matrix)
-  pub few : length (c .candidates) ≤ 128
+  pub few : length (c .candidates) ≤ mostCandidates
   pub listed : RowsOf (c .p) (c .n) (c .candidates)
 
 unfoldable pub defaultAllowance : ℕ
@@ -87,7 +92,7 @@ defaultAllowance = 8192
 
 abbrev pub allowanceIn : Option (ℕ × ℕ) → ℕ
 allowanceIn none = defaultAllowance
-allowanceIn (some a) = 128 * a .0 + a .1
+allowanceIn (some a) = radix * a .0 + a .1
 
 abbrev pub allowanceOf : Case → ℕ
 allowanceOf c = allowanceIn (c .allowance)

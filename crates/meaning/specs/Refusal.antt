@@ -19,13 +19,15 @@ use mathlib.Core.Option.{Option, none, some}
 use Prim.Native.Nat.{ℕ, zero, suc, _+_, _*_, _/_, _%_}
 use lib.ListN.{length}
 use lib.Dec.{leb, ltb, eqb}
+use Rattle.meaning.specs.Bounds.{largestPrime, widest, coefficients, mostCandidates}
+use Rattle.meaning.specs.Chain.{stageRoom}
 
 unfoldable pub allBelow : ℕ → (ℕ → Bool) → Bool
 allBelow zero t = true
 allBelow (suc k) t = t k && allBelow k t
 
 unfoldable pub isPrime : ℕ → Bool
-isPrime p = leb 2 p && (leb p 251 && allBelow p (λ a. leb a 1 || not (eqb (p % a) 0)))
+isPrime p = leb 2 p && (leb p largestPrime && allBelow p (λ a. leb a 1 || not (eqb (p % a) 0)))
 
 unfoldable pub every : (ℕ → Bool) → List ℕ → Bool
 every t [] = true
@@ -35,19 +37,19 @@ unfoldable pub noPrime : ℕ → Bool
 noPrime p = not (isPrime p)
 
 unfoldable pub noSize : ℕ → Bool
-noSize n = not (leb 1 n && leb n 64)
+noSize n = not (leb 1 n && leb n widest)
 
 unfoldable pub noMatrix : ℕ → List ℕ → Bool
 noMatrix n m = not (eqb (length m) (n * n))
 
 unfoldable pub noRows : ℕ → List ℕ → Bool
-noRows n cs = not (eqb (length cs % n) 0 && leb (length cs / n) 128)
+noRows n cs = not (eqb (length cs % n) 0 && leb (length cs / n) mostCandidates)
 
 unfoldable pub noVector : ℕ → List ℕ → Bool
 noVector n v = not (eqb (length v) n)
 
 unfoldable pub noPolynomial : List ℕ → Bool
-noPolynomial f = not (leb 1 (length f) && leb (length f) 65)
+noPolynomial f = not (leb 1 (length f) && leb (length f) coefficients)
 
 unfoldable pub badEntry : ℕ → List ℕ → Bool
 badEntry p l = not (every (λ x. ltb x p) l)
@@ -80,7 +82,7 @@ standRefusal p n m cs poly image =
 unfoldable pub chainRefusal : ℕ → ℕ → List ℕ → List ℕ → List ℕ → List ℕ → Option ℕ
 chainRefusal p n m cs product stages =
     first ((1, noPrime p) ∷ (2, noSize n) ∷ (3, noMatrix n m) ∷ (4, noRows n cs) ∷ (5, badEntry p m || badEntry p cs)
-    ∷ (6, tooShort (n + 1) product || tooShort (2 * n) stages) ∷ [])
+    ∷ (6, tooShort (n + 1) product || tooShort (stageRoom n) stages) ∷ [])
 
 unfoldable pub periodRefusal : ℕ → ℕ → List ℕ → Option ℕ
 periodRefusal p n m = first ((1, noPrime p) ∷ (2, noSize n) ∷ (3, noMatrix n m) ∷ (5, badEntry p m) ∷ [])

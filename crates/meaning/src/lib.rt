@@ -1,1 +1,20 @@
-// Document 01 in definitions, on bytes: what a reader must believe. They are in specs/; there is no code here.
+// Document 01 in definitions, on bytes: what a reader must believe. They are in specs/. Here are the numbers that bound the work, for the code that
+// has to keep to them: no function.
+
+// The largest prime that is covered.
+pub const LARGEST_PRIME: u32 = 251;
+
+// The most rows that a machine has, and entries that a row has.
+pub const WIDEST: usize = 64;
+
+// The most coefficients that a polynomial has.
+pub const COEFFICIENTS: usize = WIDEST + 1;
+
+// The most rows that a candidate list has.
+pub const MOST_CANDIDATES: usize = 128;
+
+// The bytes of the stage record at the largest n.
+pub const STAGE_RECORD: usize = 2 * WIDEST;
+
+// The base to which a case file has the two halves of its allowance.
+pub const RADIX: u32 = 128;

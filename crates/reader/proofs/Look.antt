@@ -20,8 +20,9 @@ use borrow.Author.Tests.{le-ltb, ltb-true, ltb-false, leb-true, eqb-true}
 use types.Run.{OneOf, miss}
 use denote.Enum.Declared.{tagOf}
 use Rattle.meaning.specs.Refusal.{isPrime}
-use Rattle.meaning.specs.Case.{Record, recordBytes}
+use Rattle.meaning.specs.Case.{Record, recordBytes, radix}
 use Rattle.meaning.specs.Case.Record.{field, allow, row, candidate, end}
+use Rattle.meaning.specs.Bounds.{mostCandidates, widest}
 use Rattle.scan.specs.declared.Head.{Head}
 use Rattle.scan.specs.declared.State.{State}
 use Rattle.scan.specs.declared.State.the-variants.{Start, Opening, Modulus, Size, Body, Letter, Entries, Over, Dead}
@@ -116,12 +117,12 @@ alive-field a b p n h =
     let i = only-alive (eqb a 255) Opening (b ∷ p ∷ n ∷ []) h in
     let j = only-alive (eqb b 70) Modulus (p ∷ n ∷ []) (i .1) in
     let k = only-alive (isPrime p) (Size p) (n ∷ []) (j .1) in
-    let l = only-alive (leb 1 n) (only (leb n 64) (Body (begun p n))) [] (k .1) in
-    let m = only-alive (leb n 64) (Body (begun p n)) [] (l .1) in
+    let l = only-alive (leb 1 n) (only (leb n widest) (Body (begun p n))) [] (k .1) in
+    let m = only-alive (leb n widest) (Body (begun p n)) [] (l .1) in
     record {
       read = field p n;
       behind = Body (begun p n);
-      fits = fits-field (k .0) (leb-true 1 n (l .0)) (leb-true n 64 (m .0));
+      fits = fits-field (k .0) (leb-true 1 n (l .0)) (leb-true n widest (m .0));
       bytes = ap₂ (λ x y. x ∷ y ∷ p ∷ n ∷ []) (eqb-true a 255 (i .0)) (eqb-true b 70 (j .0));
     }
 
@@ -157,13 +158,13 @@ module _ (h : Head) where
       let l : List ℕ = high ∷ low ∷ [] in
       let g : Head = stale h (h .count) in
       let i = alive-mark a (65 ∷ l) v in
-      let j = only-alive (h .fresh) (Entries g 128 2) l (i .1) in
-      let k = entries-small g 128 2 l refl (j .1) in
+      let j = only-alive (h .fresh) (Entries g radix 2) l (i .1) in
+      let k = entries-small g radix 2 l refl (j .1) in
       record { read = allow high low; behind = Body g; fits = fits-allow (j .0) (k .0) (k .1 .0); bytes = ap (λ x. x ∷ 65 ∷ l) (i .0) }
 
   -- behind any other letter but E a candidate follows
   letter-other : (b : ℕ) → eqb b 65 ≡ false → eqb b 82 ≡ false → eqb b 69 ≡ false
-      → letter h b ≡ only (leb (h .n) (h .count)) (only (eqb b 67) (only (ltb (h .count) (h .n + 128)) (opened h)))
+      → letter h b ≡ only (leb (h .n) (h .count)) (only (eqb b 67) (only (ltb (h .count) (h .n + mostCandidates)) (opened h)))
   unfolding letter
   letter-other b c d e = rw (c, d, e)
 
@@ -174,7 +175,7 @@ module _ (h : Head) where
       let i = alive-mark a (b ∷ l) v in
       let j = only-alive (leb (h .n) (h .count)) _ l (subst (λ q. Alive (run q l)) (letter-other b c d f) (i .1)) in
       let k = only-alive (eqb b 67) _ l (j .1) in
-      let o = only-alive (ltb (h .count) (h .n + 128)) (opened h) l (k .1) in
+      let o = only-alive (ltb (h .count) (h .n + mostCandidates)) (opened h) l (k .1) in
       record {
         read = candidate l;
         behind = Body (stale h (h .count + 1));

@@ -24,6 +24,7 @@ use lib.Dec.{leb}
 use lib.ListN.{length}
 use Rattle.meaning.specs.Refusal.{isPrime, noPrime, noSize, noMatrix, noRows, noVector, noPolynomial, badEntry, tooShort, first, inverseRefusal, orderRefusal, imageRefusal}
 use Rattle.meaning.proofs.Refusal.{noSize-false, noRows-false, first-none}
+use Rattle.meaning.specs.Bounds.{widest}
 use Rattle.refusals.specs.Numbers.{numberOf, due, earlier}
 
 pub applies : (b : Bool) → ¬ (b ≡ false) → b ≡ true
@@ -78,7 +79,7 @@ first-past ((j, true) ∷ ts) us e = absurd (Option·none-ne-some j (sym e))
 first-past ((j, false) ∷ ts) us e = first-past ts us e
 
 -- n is in its bounds where test 2 does not apply
-pub size-told : (p n : ℕ) (ts : List (ℕ × Bool)) → first ((1, noPrime p) ∷ (2, noSize n) ∷ ts) ≡ none → (1 ≤ n) × (n ≤ 64)
+pub size-told : (p n : ℕ) (ts : List (ℕ × Bool)) → first ((1, noPrime p) ∷ (2, noSize n) ∷ ts) ≡ none → (1 ≤ n) × (n ≤ widest)
 size-told p n ts q = noSize-false n (first-none _ _ _ (first-none _ _ _ q .1) .0)
 
 pub rows-over : (n : ℕ) (cs : List ℕ) → 0 < n → noRows n cs ≡ false → length cs % n ≡ 0

@@ -7,6 +7,9 @@ ghost use lib.Dec.{leb};
 ghost use Rattle.meaning.specs.Refusal.{noPrime, noSize, noMatrix, noRows, noVector, noPolynomial, badEntry, tooShort, first};
 ghost use Rattle.meaning.specs.Refusal.{inverseRefusal, orderRefusal, imageRefusal, standRefusal, chainRefusal, periodRefusal};
 ghost use Rattle.refusals.specs.Numbers.{numberOf, due, earlier};
+use meaning::COEFFICIENTS;
+use meaning::MOST_CANDIDATES;
+use meaning::WIDEST;
 use rows::Found;
 
 // Of the numbers of two tests, 0 for one that does not apply, the one that is due: the first is tested earlier.
@@ -40,7 +43,7 @@ fn shape(p: u32, n: usize, m: &[u8]) -> u8
     if n < 1 {
         return 2;
     }
-    if 64 < n {
+    if WIDEST < n {
         return 2;
     }
     if m.len() != n * n {
@@ -67,7 +70,7 @@ fn candidates(n: usize, cs: &[u8]) -> u8
     if cs.len() % n != 0 {
         return 4;
     }
-    if 128 < cs.len() / n {
+    if MOST_CANDIDATES < cs.len() / n {
         return 4;
     }
     0
@@ -80,7 +83,7 @@ fn polynomial(f: &[u8]) -> u8
     if f.len() < 1 {
         return 7;
     }
-    if 65 < f.len() {
+    if COEFFICIENTS < f.len() {
         return 7;
     }
     0

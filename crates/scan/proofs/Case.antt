@@ -16,6 +16,7 @@ use lib.ListN.{length, length-append}
 use lib.Seq.{take-length}
 use Rattle.meaning.specs.Case.{Record, recordBytes, flat, Case, allowRecord, records, caseBytes, RowsOf, IsCase, longestCase, Begins, Place}
 use Rattle.meaning.specs.Case.Record.{field, row, candidate, end}
+use Rattle.meaning.specs.Bounds.{mostCandidates, widest}
 use Rattle.scan.specs.Machine.{Viable}
 use Rattle.scan.proofs.Place.{case-over, viable-begins, place-past}
 
@@ -83,6 +84,6 @@ pub case-longest : {s : List ℕ} {c : Case} → IsCase s c → length s ≤ lon
 case-longest {s} {c} i =
     let w = i .well-formed in
     let wide : c .n + 2 ≤ 66 = omega (arith, w .most) in
-    let rows : c .n * (c .n + 2) ≤ 64 * 66 = mul-le-mul (w .most) wide in
-    let candidates : length (c .candidates) * (c .n + 2) ≤ 128 * 66 = mul-le-mul (w .few) wide in
+    let rows : c .n * (c .n + 2) ≤ widest * 66 = mul-le-mul (w .most) wide in
+    let candidates : length (c .candidates) * (c .n + 2) ≤ mostCandidates * (widest + 2) = mul-le-mul (w .few) wide in
     omega (arith, case-length i, allow-most (c .allowance))

@@ -27,8 +27,9 @@ use lib.ListN.{length, replicate, length-replicate}
 use lib.Dec.{leb, ltb, eqb, lit≤}
 use borrow.Author.Tests.{leb-true, leb-false, ltb-true, eqb-true, lt-ltb, le-leb}
 use Rattle.meaning.specs.Bytes.{Small}
+use Rattle.meaning.specs.Bounds.{mostCandidates, widest}
 use Rattle.meaning.specs.Refusal.{isPrime, allBelow}
-use Rattle.meaning.specs.Case.{Record, recordBytes, flat, Case, records, allowRecord, RowsOf, Halves, WellFormed}
+use Rattle.meaning.specs.Case.{Record, recordBytes, flat, Case, records, allowRecord, RowsOf, Halves, WellFormed, radix}
 use Rattle.meaning.specs.Case.Record.{field, allow, row, candidate, end}
 use Rattle.meaning.proofs.Bytes.{zeros-small}
 use Rattle.scan.specs.declared.Head.{Head}
@@ -39,10 +40,10 @@ use Rattle.scan.specs.Machine.{only, begun, stale, opened, sized, letter
 use Rattle.scan.proofs.Run.{Alive, pick-each, prime-positive, run-dead, viable-after, entries-run}
 
 pub data Fits : State → Record → State → Type 0 where
-  fits-field : {p n : ℕ} → isPrime p ≡ true → 1 ≤ n → n ≤ 64 → Fits Start (field p n) (Body (begun p n))
-  fits-allow : {h : Head} {high low : ℕ} → h .fresh ≡ true → high < 128 → low < 128 → Fits (Body h) (allow high low) (Body (stale h (h .count)))
+  fits-field : {p n : ℕ} → isPrime p ≡ true → 1 ≤ n → n ≤ widest → Fits Start (field p n) (Body (begun p n))
+  fits-allow : {h : Head} {high low : ℕ} → h .fresh ≡ true → high < radix → low < radix → Fits (Body h) (allow high low) (Body (stale h (h .count)))
   fits-row : {h : Head} {l : List ℕ} → h .count < h .n → length l ≡ h .n → Small (h .p) l → Fits (Body h) (row l) (Body (stale h (h .count + 1)))
-  fits-candidate : {h : Head} {l : List ℕ} → h .n ≤ h .count → h .count < h .n + 128 → length l ≡ h .n → Small (h .p) l
+  fits-candidate : {h : Head} {l : List ℕ} → h .n ≤ h .count → h .count < h .n + mostCandidates → length l ≡ h .n → Small (h .p) l
       → Fits (Body h) (candidate l) (Body (stale h (h .count + 1)))
   fits-end : {h : Head} → h .n ≤ h .count → Fits (Body h) end (Over (stale h (h .count)))
 
@@ -68,21 +69,21 @@ fits-viable (fits-row h e s) g = g
 fits-viable (fits-candidate h k e s) g = g
 fits-viable (fits-end h) g = tt
 
-sized-body : (p n : ℕ) → 1 ≤ n → n ≤ 64 → sized p n ≡ Body (begun p n)
+sized-body : (p n : ℕ) → 1 ≤ n → n ≤ widest → sized p n ≡ Body (begun p n)
 unfolding sized
-sized-body p n h k = rw (le-leb 1 n h, le-leb n 64 k)
+sized-body p n h k = rw (le-leb 1 n h, le-leb n widest k)
 
-letter-allow : (h : Head) → h .fresh ≡ true → letter h 65 ≡ Entries (stale h (h .count)) 128 2
+letter-allow : (h : Head) → h .fresh ≡ true → letter h 65 ≡ Entries (stale h (h .count)) radix 2
 unfolding letter
-letter-allow h f = ap (λ t. only t (Entries (stale h (h .count)) 128 2)) f
+letter-allow h f = ap (λ t. only t (Entries (stale h (h .count)) radix 2)) f
 
 letter-row : (h : Head) → h .count < h .n → letter h 82 ≡ opened h
 unfolding letter
 letter-row h i = rw (lt-ltb (h .count) (h .n) i)
 
-letter-candidate : (h : Head) → h .n ≤ h .count → h .count < h .n + 128 → letter h 67 ≡ opened h
+letter-candidate : (h : Head) → h .n ≤ h .count → h .count < h .n + mostCandidates → letter h 67 ≡ opened h
 unfolding letter
-letter-candidate h i k = rw (le-leb (h .n) (h .count) i, lt-ltb (h .count) (h .n + 128) k)
+letter-candidate h i k = rw (le-leb (h .n) (h .count) i, lt-ltb (h .count) (h .n + mostCandidates) k)
 
 letter-end : (h : Head) → h .n ≤ h .count → letter h 69 ≡ Over (stale h (h .count))
 unfolding letter
@@ -92,7 +93,7 @@ pub fits-run : {q z : State} {x : Record} → Fits q x z → Viable q → (t : L
 unfolding recordBytes run after
 fits-run (fits-field {p} {n} P h k) g t = ap (λ b. run (only b (Size p)) (n ∷ t)) P ∙ ap (λ q. run q t) (sized-body p n h k)
 fits-run (fits-allow {h} {high} {low} f i k) g t =
-    ap (λ q. run q (high ∷ low ∷ t)) (letter-allow h f) ∙ entries-run (stale h (h .count)) 128 2 (high ∷ low ∷ []) t (lit≤ tt) refl (i, (k, tt))
+    ap (λ q. run q (high ∷ low ∷ t)) (letter-allow h f) ∙ entries-run (stale h (h .count)) radix 2 (high ∷ low ∷ []) t (lit≤ tt) refl (i, (k, tt))
 fits-run (fits-row {h} {l} i e s) g t =
     ap (λ q. run q (l ++ t)) (letter-row h i) ∙ entries-run (stale h (h .count + 1)) (h .p) (h .n) l t (g .1) e s
 fits-run (fits-candidate {h} {l} i k e s) g t =
@@ -118,7 +119,7 @@ takes-viable stays g = g
 takes-viable (takes f u) g = takes-viable u (fits-viable f g)
 
 -- a well-formed case leads from Start to Over
-candidates-take : (h : Head) (ys : List (List ℕ)) → RowsOf (h .p) (h .n) ys → h .n ≤ h .count → h .count + length ys ≤ h .n + 128
+candidates-take : (h : Head) (ys : List (List ℕ)) → RowsOf (h .p) (h .n) ys → h .n ≤ h .count → h .count + length ys ≤ h .n + mostCandidates
     → Takes (Body h) (map candidate ys ++ (end ∷ [])) (Over (stale h (h .count + length ys)))
 candidates-take h [] s i k = subst (λ j. Takes (Body h) (end ∷ []) (Over (stale h j))) (sym (add-zero (h .count))) (takes (fits-end i) stays)
 candidates-take h (y ∷ ys) s i k =
@@ -127,7 +128,7 @@ candidates-take h (y ∷ ys) s i k =
     (subst (λ j. Takes (Body (stale h (h .count + 1))) (map candidate ys ++ (end ∷ [])) (Over (stale h j))) e
     (candidates-take (stale h (h .count + 1)) ys (s .1) (omega arith) (omega arith)))
 
-rows-take : (h : Head) (xs ys : List (List ℕ)) → RowsOf (h .p) (h .n) xs → RowsOf (h .p) (h .n) ys → h .count + length xs ≡ h .n → length ys ≤ 128
+rows-take : (h : Head) (xs ys : List (List ℕ)) → RowsOf (h .p) (h .n) xs → RowsOf (h .p) (h .n) ys → h .count + length xs ≡ h .n → length ys ≤ mostCandidates
     → Takes (Body h) (map row xs ++ (map candidate ys ++ (end ∷ []))) (Over (stale h (h .n + length ys)))
 rows-take h [] ys s u e k =
     let q : h .count ≡ h .n = omega arith in
@@ -164,9 +165,9 @@ record CandidatePart (p n m : ℕ) (xs : List Record) : Type 0 where
   listed : List (List ℕ)
   are : xs ≡ map candidate listed ++ (end ∷ [])
   rows : RowsOf p n listed
-  few : m + length listed ≤ n + 128
+  few : m + length listed ≤ n + mostCandidates
 
-candidate-part : {h k : Head} {xs : List Record} → false ≡ h .fresh → h .n ≤ h .count → h .count ≤ h .n + 128 → Takes (Body h) xs (Over k)
+candidate-part : {h k : Head} {xs : List Record} → false ≡ h .fresh → h .n ≤ h .count → h .count ≤ h .n + mostCandidates → Takes (Body h) xs (Over k)
     → CandidatePart (h .p) (h .n) (h .count) xs
 candidate-part f i k (takes (fits-allow g a b) t) = absurd (false-true (f ∙ g))
 candidate-part f i k (takes (fits-row l e s) t) = absurd (omega arith)
@@ -183,7 +184,7 @@ record RowPart (p n m : ℕ) (xs : List Record) : Type 0 where
   square : m + length matrix ≡ n
   rows : RowsOf p n matrix
   candidates : RowsOf p n listed
-  few : length listed ≤ 128
+  few : length listed ≤ mostCandidates
 
 -- where the rows are over
 no-rows : {p n m : ℕ} {xs : List Record} → m ≡ n → CandidatePart p n m xs → RowPart p n m xs
@@ -222,7 +223,7 @@ pub record CaseOf (xs : List Record) : Type 0 where
   pub are : records case ≡ xs
 
 -- the case from its parts
-joined : {p n : ℕ} {xs : List Record} → isPrime p ≡ true → 1 ≤ n → n ≤ 64 → (a : Option (ℕ × ℕ)) → Halves a → RowPart p n 0 xs
+joined : {p n : ℕ} {xs : List Record} → isPrime p ≡ true → 1 ≤ n → n ≤ widest → (a : Option (ℕ × ℕ)) → Halves a → RowPart p n 0 xs
     → CaseOf (field p n ∷ (allowRecord a ++ xs))
 unfolding records
 joined {p} {n} P h k a b r =
@@ -309,7 +310,7 @@ unfolding flat
 are-more {x = x} f r = record { listed = x ∷ r .listed; bytes = ap (λ u. recordBytes x ++ u) (r .bytes); lead = takes f (r .lead) }
 
 -- the entries behind a letter, and the record
-two-entries : {z : State} {h : Head} (l rest : List ℕ) → h .fresh ≡ true → length l ≡ 2 → Small 128 l → Are (Body (stale h (h .count))) z rest
+two-entries : {z : State} {h : Head} (l rest : List ℕ) → h .fresh ≡ true → length l ≡ 2 → Small radix l → Are (Body (stale h (h .count))) z rest
     → Are (Body h) z (255 ∷ 65 ∷ (l ++ rest))
 unfolding recordBytes
 two-entries [] rest f e s r = absurd (omega arith)
@@ -321,7 +322,7 @@ unread-row : {z : State} (h : Head) (t : List ℕ) → h .count < h .n → Enter
 unfolding recordBytes
 unread-row h t i w = rw (w .bytes) (are-more {x = row (w .entries)} (fits-row i (w .count) (w .small)) (w .behind))
 
-unread-candidate : {z : State} (h : Head) (t : List ℕ) → h .n ≤ h .count → h .count < h .n + 128
+unread-candidate : {z : State} (h : Head) (t : List ℕ) → h .n ≤ h .count → h .count < h .n + mostCandidates
     → Entered (Body (stale h (h .count + 1))) z (h .p) (h .n) t → Are (Body h) z (255 ∷ 67 ∷ t)
 unfolding recordBytes
 unread-candidate h t i k w = rw (w .bytes) (are-more {x = candidate (w .entries)} (fits-candidate i k (w .count) (w .small)) (w .behind))
@@ -340,7 +341,7 @@ unread-letter z h b t =
     (λ e. pick-each P (ltb (h .count) (h .n)) (λ i w. rw (eqb-true b 82 e) (unread-row h t (ltb-true _ _ i) w)) (λ _. absurd))
     (λ _. pick-each P (leb (h .n) (h .count))
     (λ i. pick-each P (eqb b 67)
-    (λ e. pick-each P (ltb (h .count) (h .n + 128))
+    (λ e. pick-each P (ltb (h .count) (h .n + mostCandidates))
     (λ k w. rw (eqb-true b 67 e) (unread-candidate h t (leb-true _ _ i) (ltb-true _ _ k) w)) (λ _. absurd))
     (λ _. pick-each P (eqb b 69) (λ e w. rw (eqb-true b 69 e) (unread-end h t (leb-true _ _ i) w)) (λ _. absurd)))
     (λ _. absurd)))
@@ -375,7 +376,7 @@ unfolding sized recordBytes
 unread-size z p b t g =
     let P : State → Type 0 = λ q. Parsed z q t → Are Start z (255 ∷ 70 ∷ p ∷ b ∷ t) in
     pick-each P (leb 1 b)
-    (λ h. pick-each P (leb b 64) (λ k w. are-more (fits-field g (leb-true 1 b h) (leb-true b 64 k)) w) (λ _. absurd)) (λ _. absurd)
+    (λ h. pick-each P (leb b widest) (λ k w. are-more (fits-field g (leb-true 1 b h) (leb-true b widest k)) w) (λ _. absurd)) (λ _. absurd)
 
 unread : (z q : State) (b : ℕ) (t : List ℕ) → Viable q → Parsed z (after q b) t → Parsed z q (b ∷ t)
 unfolding after

@@ -17,6 +17,7 @@ use lib.ListN.{length}
 use lib.Dec.{leb, ltb, eqb, lit<, lit≤}
 use borrow.Author.Tests.{leb-true, leb-false, ltb-true, lt-ltb, le-leb, lt-leb, eq-eqb, ne-eqb}
 use Rattle.meaning.specs.Bytes.{Small}
+use Rattle.meaning.specs.Bounds.{mostCandidates, widest}
 use Rattle.meaning.specs.Refusal.{isPrime}
 use Rattle.meaning.proofs.Refusal.{isPrime-prime}
 use Rattle.scan.specs.declared.Head.{Head}
@@ -72,7 +73,7 @@ letter-sane h b g =
     pick-each Sane (eqb b 65) (λ _. only-sane (h .fresh) (λ _ _. (g, (lit< tt, lit≤ tt))))
     (λ _. pick-each Sane (eqb b 82) (λ _. only-sane (ltb (h .count) (h .n)) (λ _. o))
     (λ _. only-sane (leb (h .n) (h .count))
-    (λ _. pick-each Sane (eqb b 67) (λ _. only-sane (ltb (h .count) (h .n + 128)) (λ _. o)) (λ _. only-sane (eqb b 69) (λ _ _. tt)))))
+    (λ _. pick-each Sane (eqb b 67) (λ _. only-sane (ltb (h .count) (h .n + mostCandidates)) (λ _. o)) (λ _. only-sane (eqb b 69) (λ _ _. tt)))))
 
 entered-sane : (h : Head) (bound left b : ℕ) → Ranged h → Sane (entered h bound left b)
 unfolding entered
@@ -85,7 +86,7 @@ unfolding after sized
 viable-after Start b g = only-sane (eqb b 255) (λ _ _. tt)
 viable-after Opening b g = only-sane (eqb b 70) (λ _ _. tt)
 viable-after Modulus b g = only-sane (isPrime b) (λ e _. e)
-viable-after (Size p) b g = only-sane (leb 1 b) (λ e. only-sane (leb b 64) (λ _ _. (prime-positive p g, leb-true 1 b e)))
+viable-after (Size p) b g = only-sane (leb 1 b) (λ e. only-sane (leb b widest) (λ _ _. (prime-positive p g, leb-true 1 b e)))
 viable-after (Body h) b g = only-sane (eqb b 255) (λ _ _. g)
 viable-after (Letter h) b g = letter-sane h b g
 viable-after (Entries h bound left) b g = entered-sane h bound left b (g .0)

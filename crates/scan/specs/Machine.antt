@@ -20,7 +20,8 @@ use lib.ListN.{length, take}
 use lib.Dec.{leb, ltb, eqb}
 use Rattle.algebra.specs.Field.{pick}
 use Rattle.meaning.specs.Refusal.{isPrime}
-use Rattle.meaning.specs.Case.{Place}
+use Rattle.meaning.specs.Case.{Place, radix}
+use Rattle.meaning.specs.Bounds.{mostCandidates, widest}
 use Rattle.scan.specs.declared.Head.{Head}
 use Rattle.scan.specs.declared.State.{State}
 use Rattle.scan.specs.declared.State.the-variants.{Start, Opening, Modulus, Size, Body, Letter, Entries, Over, Dead}
@@ -38,14 +39,14 @@ abbrev pub opened : Head → State
 opened h = Entries (stale h (h .count + 1)) (h .p) (h .n)
 
 unfoldable pub sized : ℕ → ℕ → State
-sized p n = only (leb 1 n) (only (leb n 64) (Body (begun p n)))
+sized p n = only (leb 1 n) (only (leb n widest) (Body (begun p n)))
 
 unfoldable pub letter : Head → ℕ → State
 letter h b =
-    pick (eqb b 65) (only (h .fresh) (Entries (stale h (h .count)) 128 2))
+    pick (eqb b 65) (only (h .fresh) (Entries (stale h (h .count)) radix 2))
     (pick (eqb b 82) (only (ltb (h .count) (h .n)) (opened h))
     (only (leb (h .n) (h .count))
-    (pick (eqb b 67) (only (ltb (h .count) (h .n + 128)) (opened h))
+    (pick (eqb b 67) (only (ltb (h .count) (h .n + mostCandidates)) (opened h))
     (only (eqb b 69) (Over (stale h (h .count)))))))
 
 unfoldable pub entered : Head → ℕ → ℕ → ℕ → State

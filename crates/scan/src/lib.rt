@@ -4,11 +4,19 @@
 // well-formed case, so the first byte that leads to `Dead` stands at the place of refusal 8.
 ghost use mathlib.Core.Path.{_≡_};
 ghost use Prim.Native.Nat.{_+_, _<_, _≤_};
+ghost use Rattle.scalar.specs.Scalar.{wordBound};
 ghost use Rattle.scan.specs.Machine.{stale, opened, sized, letter, entered, after, Scans, ScanIs};
 use scalar::is_prime;
 
 // The first byte of each record.
 const MARK: u8 = 255;
+
+// 01's bounds in the widths that the scan works in: on n, on a half of the allowance, on the number of candidates.
+const MOST_ROWS: u8 = meaning::WIDEST as u8;
+
+const HALF: u8 = meaning::RADIX as u8;
+
+const MOST_LISTED: u32 = meaning::MOST_CANDIDATES as u32;
 
 // What the scan keeps behind F. `count` is of rows and candidates together, that of the record under way included; `fresh` says that an A record may
 // still come.
@@ -61,7 +69,7 @@ fn size(p: u8, n: u8) -> State
     if n < 1 {
         return State::Dead;
     }
-    if 64 < n {
+    if MOST_ROWS < n {
         return State::Dead;
     }
     State::Body(Head {
@@ -74,7 +82,7 @@ fn size(p: u8, n: u8) -> State
 
 // The state behind the letter of an R or a C record.
 fn open_entries(h: Head) -> State
-    requires { ⌜ h .count + 1 < 4294967296 ⌝ }
+    requires { ⌜ h .count + 1 < wordBound ⌝ }
     ensures { λ r. ⌜ r ≡ opened h ⌝ }
 {
     State::Entries {
@@ -94,7 +102,7 @@ fn begin(h: Head, b: u8) -> State
         if h.fresh {
             return State::Entries {
                 head: stale_head(h, count),
-                bound: 128,
+                bound: HALF,
                 left: 2,
             };
         }
@@ -111,7 +119,7 @@ fn begin(h: Head, b: u8) -> State
         return State::Dead;
     }
     if b == b'C' {
-        if count < rows + 128 {
+        if count < rows + MOST_LISTED {
             return open_entries(h);
         }
         return State::Dead;

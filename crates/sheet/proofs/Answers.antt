@@ -20,9 +20,9 @@ use Rattle.algebra.specs.Row.{S}
 use Rattle.algebra.specs.Poly.{Poly, coef, act}
 use Rattle.algebra.specs.Orders.{WithDegree, Stages, end, pass, stage, product}
 use Rattle.meaning.specs.Bytes.{times, e, bytes, write, padded}
-use Rattle.meaning.specs.Bounds.{Sound, SoundRows}
+use Rattle.meaning.specs.Bounds.{coefficients, widest, Sound, SoundRows}
 use Rattle.meaning.specs.Stand.{Standing, proved, short, Outcome, witnessRow}
-use Rattle.meaning.specs.Chain.{stageBytes}
+use Rattle.meaning.specs.Chain.{stageBytes, stageRoom}
 use Rattle.meaning.specs.Calls.{given, StandCall, ChainCall, PeriodCall}
 use Rattle.meaning.specs.Line.{Line, text}
 use Rattle.meaning.specs.Sheet.{fieldLine, standLines, stageLine, chainLine, periodLine, SheetLines, sheetRoom}
@@ -93,13 +93,13 @@ stages-read P seen vs st (stage {s} {st = ss} h l A) rest =
     )
 
 chained-given : {p : ℕ} {X : S p → S p} → Prime p → (n : ℕ) (vs : List (S p)) (st : List (WithDegree p)) (r : Chained) (prod record-bytes : List ℕ) (old : List ℕ × List ℕ) → chainedOf r ≡ given (length st)
-    → Stages X [] vs st → prod ≡ write (bytes (suc n) (coef (product st))) (old .0) → record-bytes ≡ write (padded (2 * n) (stageBytes st)) (old .1)
+    → Stages X [] vs st → prod ≡ write (bytes (suc n) (coef (product st))) (old .0) → record-bytes ≡ write (padded (stageRoom n) (stageBytes st)) (old .1)
     → (chainedLines n r prod record-bytes ≡ map stageLine st ++ (chainLine n st ∷ [])) × ChainedFits n r prod record-bytes
 unfolding write padded
 chained-given P n vs st (chained.Stages k) prod record-bytes old q A a b =
     let z : k ≡ length st = cc in
     let w = written-front (n + 1) (suc n) (coef (product st)) (old .0) (omega arith) a in
-    let rest = replicate (2 * n - length (stageBytes st)) 0 ++ drop (length (padded (2 * n) (stageBytes st))) (old .1) in
+    let rest = replicate (stageRoom n - length (stageBytes st)) 0 ++ drop (length (padded (stageRoom n) (stageBytes st))) (old .1) in
     let l : record-bytes ≡ stageBytes st ++ rest = b ∙ append-assoc (stageBytes st) _ _ in
     let i = stages-read P [] vs st A rest in (
       ap₂ (λ x y. x ++ (record { word = "CHAIN"; numbers = y } ∷ [])) (ap₂ stageLinesIn z l ∙ i .0) (w .0 ∙ ap (λ k. bytes k (coef (product st))) (add-one n)),
@@ -123,15 +123,15 @@ pub record CaseLines (p n : ℕ) (m cs : List ℕ) (a : ℕ) (s : Stood) (c : Ch
   pub room : length (text (caseLines p n s c r poly image prod stages)) ≤ sheetRoom
 
 pub case-lines : {p n a : ℕ} {m cs : List ℕ} {s : Stood} {c : Chained} {r : Perioded} {poly image prod stages : List ℕ} → Sound p n m → SoundRows p n cs → a < 2 ^ 32
-    → StandCall p n m cs a (replicate 65 0, replicate 64 0) (stoodOf s) (poly, image) → ChainCall p n m cs (replicate 65 0, replicate 128 0) (chainedOf c) (prod, stages)
+    → StandCall p n m cs a (replicate coefficients 0, replicate widest 0) (stoodOf s) (poly, image) → ChainCall p n m cs (replicate coefficients 0, replicate (stageRoom widest) 0) (chainedOf c) (prod, stages)
     → PeriodCall p n m (periodedOf r) → CaseLines p n m cs a s c r poly image prod stages
 case-lines {p} {n} {a} {m} {cs} {s} {c} {r} {poly} {image} {prod} {stages} A B h F G H =
     let P = A .prime in
     let (o, so, F′) = F .result (sound-stand p n m cs _ _ A B (simp length-replicate (omega (arith, A .size))) (simp length-replicate (A .size))) in
     let (k, sk, G′) = G .result (sound-chain p n m cs _ _ A B (simp length-replicate (omega (arith, A .size))) (simp length-replicate (omega (arith, A .size)))) in
     let (t, st, H′) = H .result (sound-period p n m A) in
-    let x = stood-given n (times p n m) (F′ .poly) s o poly image (replicate 65 0, replicate 64 0) so (stand-degree P n m cs a o (F′ .poly) (F′ .stand)) (F′ .polynomial) (F′ .witness) in
-    let y = chained-given P n _ (G′ .stages) c prod stages (replicate 65 0, replicate 128 0) (sk ∙ ap given (G′ .number)) (G′ .chain) (G′ .product) (G′ .record-bytes) in
+    let x = stood-given n (times p n m) (F′ .poly) s o poly image (replicate coefficients 0, replicate widest 0) so (stand-degree P n m cs a o (F′ .poly) (F′ .stand)) (F′ .polynomial) (F′ .witness) in
+    let y = chained-given P n _ (G′ .stages) c prod stages (replicate coefficients 0, replicate (stageRoom widest) 0) (sk ∙ ap given (G′ .number)) (G′ .chain) (G′ .product) (G′ .record-bytes) in
     let L : SheetLines p n m cs a (caseLines p n s c r poly image prod stages) = record {
       outcome = o;
       poly = F′ .poly;

@@ -15,7 +15,7 @@ use lib.ListN.{length, take}
 use lib.Seq.{take-at}
 use borrow.Author.Tests.{lt-ltb}
 use Rattle.meaning.specs.Bytes.{padded}
-use Rattle.meaning.specs.Bounds.{Sound, SoundRows}
+use Rattle.meaning.specs.Bounds.{mostCandidates, widest, Sound, SoundRows}
 use Rattle.meaning.specs.Refusal.{first, tooShort}
 use Rattle.meaning.specs.Case.{Case, IsCase, allowanceOf, matrixBytes, candidateBytes, Place}
 use Rattle.meaning.specs.Line.{text}
@@ -51,8 +51,8 @@ read-case {s} {r} {p} {n} {a} {count} (reads c i v f g) q =
     let e = Option·some-injective (p, n, a, count) (c .p, c .n, allowanceOf c, length (c .candidates)) (sym (ap valuesOf q) ∙ v) in
     let size : c .n ≡ n = sym (ap (λ x. x .1) e) in
     let number : length (c .candidates) ≡ count = sym (ap (λ x. x .3) e) in
-    let side : n ≤ 64 = omega (arith, w .most) in
-    let few : count ≤ 128 = omega (arith, w .few) in
+    let side : n ≤ widest = omega (arith, w .most) in
+    let few : count ≤ mostCandidates = omega (arith, w .few) in
     record {
       case = c;
       is = i;

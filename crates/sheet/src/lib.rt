@@ -14,17 +14,13 @@ use calls::Counts;
 use calls::Perioded;
 use calls::Stood;
 use casefile::Reading;
+use meaning::COEFFICIENTS;
+use meaning::STAGE_RECORD;
+use meaning::WIDEST;
 use text::Text;
 
 // A buffer of so many bytes has room for every sheet.
 pub const ROOM: usize = text::ROOM;
-
-// What buffers need at n = 64: a polynomial's coefficients, a row's entries, the record of the stages.
-const COEFFICIENTS: usize = 65;
-
-const ENTRIES: usize = 64;
-
-const STAGE_RECORD: usize = 128;
 
 // What the call answers: how many bytes the sheet is, or the refusal.
 pub enum Sheeted {
@@ -146,7 +142,7 @@ fn case_text(p: u32, n: usize, m: &[u8], cs: &[u8], allowance: u32) -> Text
     ensures { λ r. ⌜ CaseText p n (now (m .entry)) (now (cs .entry)) allowance r ⌝ }
 {
     let mut poly = [0u8; COEFFICIENTS];
-    let mut image = [0u8; ENTRIES];
+    let mut image = [0u8; WIDEST];
     let mut product = [0u8; COEFFICIENTS];
     let mut stages = [0u8; STAGE_RECORD];
     let stood = calls::stand(p, n, m, cs, allowance, &mut poly, &mut image);

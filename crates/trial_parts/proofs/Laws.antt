@@ -21,15 +21,16 @@ use Rattle.algebra.proofs.Poly.{monic-not-zero}
 use Rattle.algebra.proofs.Gcd.{gcd-from-divisors, lcm-by-gcd, size-none}
 use Rattle.meaning.specs.Refusal.{isPrime}
 use Rattle.meaning.specs.Bytes.{Small}
+use Rattle.meaning.specs.Bounds.{largestPrime, coefficients}
 use Rattle.meaning.proofs.Refusal.{isPrime-prime, badEntry-false}
-use Rattle.rows.specs.Row.{coefficients, firstBad}
+use Rattle.rows.specs.Row.{firstBad}
 use Rattle.rows.proofs.FirstBad.{firstBad-none}
 use Rattle.poly.specs.declared.Polynomial.{Polynomial}
 use Rattle.poly.specs.Polynomial.{po, Good}
 use Rattle.division.specs.Division.{IsGcd, Room}
 use Rattle.poly.proofs.Laws.{good-at, good-below, good-size-own}
 
-pub test-prime : {b : Bool} (p : ℕ) → b ≡ isPrime p → b ≡ true → Prime p × (p ≤ 251)
+pub test-prime : {b : Bool} (p : ℕ) → b ≡ isPrime p → b ≡ true → Prime p × (p ≤ largestPrime)
 test-prime p e t = isPrime-prime p (sym e ∙ t)
 
 pub test-small : (p : ℕ) (l : List ℕ) → firstBad p l ≡ none → Small p l

@@ -4,11 +4,11 @@ ghost use mathlib.Core.Path.{_≡_};
 ghost use Prim.Native.Nat.{_<_};
 ghost use lib.ListN.{length};
 ghost use Rattle.algebra.specs.Field.{Prime};
-ghost use Rattle.rows.specs.Row.{coefficients};
+ghost use Rattle.meaning.specs.Bounds.{coefficients};
 ghost use Rattle.poly.specs.Polynomial.{Good};
 use crate::prime;
 use crate::refuse;
-use poly::COEFFICIENTS;
+use meaning::COEFFICIENTS;
 use poly::Polynomial;
 
 // Whether the line's word is one of these. If so, the method or the function is called and its answer printed.

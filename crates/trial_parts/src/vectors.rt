@@ -1,11 +1,11 @@
 // The functions of `rows` and `matrix`: a modulus, then matrix, polynomial or rows, each in a group of its own.
 ghost use mathlib.Core.Path.{_≡_};
 ghost use Prim.Native.Nat.{_*_, _≤_};
-ghost use Rattle.rows.specs.Row.{widest};
+ghost use Rattle.meaning.specs.Bounds.{widest};
 use crate::modulus;
 use crate::refuse;
-use poly::COEFFICIENTS;
-use rows::WIDEST;
+use meaning::COEFFICIENTS;
+use meaning::WIDEST;
 
 // Whether the line's word is one of these. If so, the function is called and its answer printed.
 pub fn answered(line: &[u8]) -> bool {

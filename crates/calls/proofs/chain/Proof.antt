@@ -9,6 +9,8 @@ use lib.ListN.{length, length-take}
 use lib.Seq.{length-take-le}
 use Rattle.meaning.specs.Refusal.{chainRefusal}
 use Rattle.meaning.proofs.Refusal.{chain-sound}
+use Rattle.meaning.specs.Bounds.{widest, coefficients}
+use Rattle.meaning.specs.Chain.{stageRoom}
 use Rattle.refusals.proofs.Laws.{some-number, none-number}
 use Rattle.calls.proofs.Laws.{refused-by, given-by, chain-written}
 use Rattle.calls.proofs.chain.Statement.{statement}
@@ -44,12 +46,12 @@ link-requires c κs =
 
 -- the coefficients, the record and the buffers have their places
 room : (c : tie.After-link) → let x = start (c .before) .args in
-    (x .n + 1 ≤ 65) × (x .n + 1 ≤ length (c .link .result .product .c)) × (x .n + 1 ≤ length (x .product .now))
+    (x .n + 1 ≤ coefficients) × (x .n + 1 ≤ length (c .link .result .product .c)) × (x .n + 1 ≤ length (x .product .now))
     × (2 * x .n ≤ length (c .link .result .«record»)) × (2 * x .n ≤ length (x .stages .now))
 room c =
     let S = chain-sound _ _ _ _ _ _ (taken (c .before)) in
     let most = S .0 .size in
-    let long : length (c .link .result .«record») ≡ 128 = search needs in
+    let long : length (c .link .result .«record») ≡ stageRoom widest = search needs in
     (omega arith, omega (arith, c .link .ensures .product .good .places), S .2, omega arith, S .3)
 
 add-size : tie.Need-add-size

@@ -9,6 +9,7 @@ use lib.ListN.{length}
 use lib.Seq.{length-take-le}
 use Rattle.meaning.specs.Refusal.{imageRefusal}
 use Rattle.meaning.proofs.Refusal.{image-sound}
+use Rattle.meaning.specs.Bounds.{widest}
 use Rattle.refusals.proofs.Laws.{some-number, none-number}
 use Rattle.calls.proofs.Laws.{refused-by, given-by, image-written}
 use Rattle.calls.proofs.image.Statement.{statement}
@@ -46,7 +47,7 @@ image-requires c κs =
     let x = start (c .before) .args in
     let S = image-sound _ _ _ _ _ _ (taken (c .before)) in
     let v : length (x .v .now) ≡ x .n = S .1 in
-    let most : x .n ≤ 64 = S .0 .size in (
+    let most : x .n ≤ widest = S .0 .size in (
       omega (arith, S .0 .prime .big),
       (
         omega arith,

@@ -9,6 +9,7 @@ use lib.ListN.{length, replicate, length-take}
 use lib.Seq.{length-take-le}
 use Rattle.meaning.specs.Refusal.{orderRefusal}
 use Rattle.meaning.proofs.Refusal.{order-sound}
+use Rattle.meaning.specs.Bounds.{widest, coefficients}
 use Rattle.spin.proofs.Laws.{before-empty, spinned-order}
 use Rattle.refusals.proofs.Laws.{some-number, none-number}
 use Rattle.calls.proofs.Laws.{refused-by, given-by, order-written}
@@ -41,12 +42,12 @@ spin-requires : tie.Need-spin-requires
 spin-requires c κs =
     let x = start (c .before) .args in
     let S = order-sound _ _ _ _ _ (taken (c .before)) in
-    let most : x .n ≤ 64 = S .0 .size in
+    let most : x .n ≤ widest = S .0 .size in
     (S .0 .prime, (most, (S .0 .matrix, (S .1, before-empty (x .p) (x .n) (x .m .now) (replicate 12480 0) (omega arith)))))
 
 -- the coefficients and the buffer have n + 1 places
 room : (c : tie.After-spin) → let x = start (c .before .before) .args in
-    (x .n + 1 ≤ 65) × (x .n + 1 ≤ length (c .spin .result .c)) × (x .n + 1 ≤ length (x .out .now))
+    (x .n + 1 ≤ coefficients) × (x .n + 1 ≤ length (c .spin .result .c)) × (x .n + 1 ≤ length (x .out .now))
 room c =
     let S = order-sound _ _ _ _ _ (taken (c .before .before)) in
     let most = S .0 .size in

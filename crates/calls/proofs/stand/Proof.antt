@@ -8,6 +8,7 @@ use borrow.Author.Needs.{needs}
 use lib.ListN.{length, take, length-take}
 use lib.Seq.{length-take-le}
 use Rattle.meaning.specs.Bytes.{times, rows}
+use Rattle.meaning.specs.Bounds.{widest, coefficients}
 use Rattle.meaning.specs.Refusal.{standRefusal}
 use Rattle.meaning.specs.Stand.{Standing, proved, short, standingOf}
 use Rattle.meaning.specs.Calls.{StandResult}
@@ -94,13 +95,13 @@ witness-row-requires c κs =
 
 -- the coefficients, the image and the buffers have their places
 room : (c : tie.After-witness-row) → let T = gathered (c .before .before) in let x = start (passed-on T) .args in
-    (x .n + 1 ≤ 65) × (x .n + 1 ≤ length (T .take-rows .result .poly .c)) × (x .n + 1 ≤ length (x .poly .now))
+    (x .n + 1 ≤ coefficients) × (x .n + 1 ≤ length (T .take-rows .result .poly .c)) × (x .n + 1 ≤ length (x .poly .now))
     × (x .n ≤ length (c .witness-row .result)) × (x .n ≤ length (x .image .now))
 room c =
     let T = gathered (c .before .before) in
     let S = stand-sound _ _ _ _ _ _ (taken (passed-on T)) in
     let most = S .0 .size in
-    let long : length (c .witness-row .result) ≡ 64 = search needs in
+    let long : length (c .witness-row .result) ≡ widest = search needs in
     (omega arith, omega (arith, T .take-rows .ensures .0 .good .places), S .2, omega arith, S .3)
 
 add-places : tie.Need-add-places

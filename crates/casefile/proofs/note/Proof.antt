@@ -4,6 +4,7 @@
 use native.Mathlib.Omega.{arith}
 use denote.Ref.{now}
 use borrow.Author.Needs.{needs}
+use Rattle.meaning.specs.Bounds.{mostCandidates, widest}
 use Rattle.casefile.specs.Reading.{matrixRoom, candidateRoom}
 use Rattle.casefile.proofs.Noting.{Fitting, row-fitting, candidate-fitting, noted-field, noted-allow, noted-row, noted-candidate, noted-rest}
 use Rattle.casefile.proofs.note.Statement.{statement}
@@ -34,7 +35,7 @@ entries-requires : tie.Need-entries-requires
 entries-requires c κs = search needs
 
 row-room : (c : tie.After-struct-known)
-    → Fitting (c .before .before .before .before .before .before .before .before .args .known .rows) 64 matrixRoom (now (c .before .before .entries .result))
+    → Fitting (c .before .before .before .before .before .before .before .before .args .known .rows) widest matrixRoom (now (c .before .before .entries .result))
 row-room c = row-fitting (c .before .before .before .before .before .before .before .before .pre) (c .before .before .before .enum-told .given .1) (c .before .before .entries .ensures .bytes)
 
 mul-put : tie.Need-mul-put
@@ -53,7 +54,7 @@ entries-requires-2 : tie.Need-entries-requires-2
 entries-requires-2 c κs = search needs
 
 candidate-room : (c : tie.After-struct-known3)
-    → Fitting (c .before .before .before .before .before .before .before .before .args .known .count) 128 candidateRoom (now (c .before .before .entries2 .result))
+    → Fitting (c .before .before .before .before .before .before .before .before .args .known .count) mostCandidates candidateRoom (now (c .before .before .entries2 .result))
 candidate-room c = candidate-fitting (c .before .before .before .before .before .before .before .before .pre) (c .before .before .before .enum-told2 .given .1) (c .before .before .entries2 .ensures .bytes)
 
 mul-put-2 : tie.Need-mul-put-2

@@ -5,6 +5,7 @@ use native.Mathlib.Omega.{arith}
 use lib.ListN.{length}
 use borrow.Author.Needs.{needs}
 use Rattle.meaning.proofs.Refusal.{noRows-false, rows-noRows}
+use Rattle.meaning.specs.Bounds.{mostCandidates}
 use Rattle.refusals.proofs.Laws.{applies, due-here, due-passed, rows-over, rows-whole}
 use Rattle.refusals.proofs.candidates.Statement.{statement}
 use Rattle.refusals.proofs.candidates.Tie as tie
@@ -27,7 +28,7 @@ returns-3 : tie.Need-returns-3
 returns-3 c =
     let x = c .before .before .args in
     let over : length (x .cs .now) % x .n ≡ 0 = omega arith in
-    let few : length (x .cs .now) / x .n ≤ 128 = omega arith in
+    let few : length (x .cs .now) / x .n ≤ mostCandidates = omega arith in
     due-passed 4 (rows-noRows (x .n) (x .cs .now) (omega arith) _ (rows-whole (x .n) (x .cs .now) over) few)
 
 pub candidates-spec : {M : Type 1} → statement M
