@@ -35,8 +35,8 @@ sheet-call-exists s old =
     let (t, S) = sheet-exists s in
     called-exists _ old (λ q. (length t, write t old, record { printed = t; sheet = S; size = refl; buffer = refl }))
 
-pub sheet-call-unique : (s old : List ℕ) (x y : Answer ℕ) (a b : List ℕ) → SheetCall s old x a → SheetCall s old y b → (x ≡ y) × (a ≡ b)
-sheet-call-unique s old =
-    called-unique _ old (λ q i j a b A B.
+pub sheet-call-unique : {s old a b : List ℕ} {x y : Answer ℕ} → SheetCall s old x a → SheetCall s old y b → (x ≡ y) × (a ≡ b)
+sheet-call-unique {s} {old} =
+    called-unique (λ q i j a b A B.
     let same = sheet-unique s (A .printed) (B .printed) (A .sheet) (B .sheet) in
     (A .size ∙ ap length same ∙ sym (B .size), A .buffer ∙ ap (λ t. write t old) same ∙ sym (B .buffer)))

@@ -18,5 +18,5 @@ sheeted-only (sheeted.Length a) (sheeted.Refused k) e = let z : _≡_ {A = ℕ} 
 sheeted-only (sheeted.Refused k) (sheeted.Length b) e = let z : _≡_ {A = ℕ} 0 1 = cc in absurd (omega arith)
 sheeted-only (sheeted.Refused k) (sheeted.Refused j) e = let z : k ≡ j = cc in ap sheeted.Refused z
 
-pub sheet-once : (s old : List ℕ) (r q : Sheeted) (x y : List ℕ) → SheetCall s old (sheetedOf r) x → SheetCall s old (sheetedOf q) y → (r ≡ q) × (x ≡ y)
-sheet-once s old r q x y A B = let (e, f) = sheet-call-unique s old _ _ x y A B in (sheeted-only r q e, f)
+pub sheet-once : (r q : Sheeted) {s old x y : List ℕ} → SheetCall s old (sheetedOf r) x → SheetCall s old (sheetedOf q) y → (r ≡ q) × (x ≡ y)
+sheet-once r q A B = let (e, f) = sheet-call-unique A B in (sheeted-only r q e, f)

@@ -11,11 +11,11 @@ use mathlib.Core.List.{List}
 use mathlib.Core.Option.{Option, none, some, Option·none-ne-some, Option·some-injective}
 use Prim.Native.Nat.{ℕ}
 use native.Mathlib.Omega.{arith}
-use Rattle.meaning.specs.Stand.{proved, short, Outcome}
+use Rattle.meaning.specs.Stand.{Standing, proved, short, Outcome}
 use Rattle.meaning.specs.Calls.{Answer, refused, given, InverseCall, OrderCall, ImageCall, StandCall, ChainCall, PeriodCall}
 use Rattle.meaning.proofs.Called.{refused-given}
 use Rattle.promises.proofs.Calls.{inverse-unique, order-unique, image-unique, stand-unique, chain-unique, period-unique}
-use Rattle.calls.specs.Answers.{invertedOf, orderedOf, imagedOf, stoodOf, chainedOf, periodedOf}
+use Rattle.calls.specs.Answers.{invertedOf, orderedOf, imagedOf, countedAs, stoodOf, chainedOf, periodedOf}
 use Rattle.calls.specs.declared.Counts.{Counts}
 use Rattle.calls.specs.declared.Inverted.{Inverted}
 use Rattle.calls.specs.declared.Inverted.the-variants as inverted
@@ -58,21 +58,20 @@ counts-path : (c d : Counts) → c .degree ≡ d .degree → c .taken ≡ d .tak
 counts-path c d a b q = λ i. record { degree = a i; taken = b i; spent = q i }
 
 -- the same counts, where they are given with any standing and witness
-given-counts : (c d : Counts) (x y : Outcome) → c .degree ≡ x .degree → c .taken ≡ x .taken → c .spent ≡ x .spent → d .degree ≡ y .degree
-    → d .taken ≡ y .taken → d .spent ≡ y .spent → x ≡ y → c ≡ d
-given-counts c d x y a b q e f g z = counts-path c d (a ∙ ap (λ o. o .degree) z ∙ sym e) (b ∙ ap (λ o. o .taken) z ∙ sym f) (q ∙ ap (λ o. o .spent) z ∙ sym g)
+given-counts : (s t : Standing) (c d : Counts) (w u : ℕ) → countedAs s c w ≡ countedAs t d u → c ≡ d
+given-counts s t c d w u z = counts-path c d (ap (λ o. o .degree) z) (ap (λ o. o .taken) z) (ap (λ o. o .spent) z)
 
 pub proved-short : ¬ (proved ≡ short)
 proved-short e = let z : _≡_ {A = ℕ} 0 1 = cc in omega arith
 
 pub stood-only : (r s : Stood) → stoodOf r ≡ stoodOf s → r ≡ s
-stood-only (stood.Proved c) (stood.Proved d) e = ap stood.Proved (given-counts c d _ _ refl refl refl refl refl refl (given-only _ _ e))
+stood-only (stood.Proved c) (stood.Proved d) e = ap stood.Proved (given-counts proved proved c d 0 0 (given-only _ _ e))
 stood-only (stood.Proved c) (stood.Short d w) e = absurd (proved-short (ap (λ o. o .standing) (given-only _ _ e)))
 stood-only (stood.Proved c) (stood.Refused k) e = absurd (refused-given k _ (sym e))
 stood-only (stood.Short c w) (stood.Proved d) e = absurd (proved-short (sym (ap (λ o. o .standing) (given-only _ _ e))))
 stood-only (stood.Short c w) (stood.Short d u) e =
     let z = given-only _ _ e in
-    ap₂ stood.Short (given-counts c d _ _ refl refl refl refl refl refl z) (ap (λ o. o .witness) z)
+    ap₂ stood.Short (given-counts short short c d w u z) (ap (λ o. o .witness) z)
 stood-only (stood.Short c w) (stood.Refused k) e = absurd (refused-given k _ (sym e))
 stood-only (stood.Refused k) (stood.Proved d) e = absurd (refused-given k _ e)
 stood-only (stood.Refused k) (stood.Short d u) e = absurd (refused-given k _ e)
@@ -96,24 +95,24 @@ perioded-only (perioded.Refused k) perioded.Never e = absurd (refused-given k no
 perioded-only (perioded.Refused k) (perioded.Refused j) e = ap perioded.Refused (refused-only (Option ℕ) k j e)
 
 -- the calls
-pub inverse-once : (p a : ℕ) (r s : Inverted) → InverseCall p a (invertedOf r) → InverseCall p a (invertedOf s) → r ≡ s
-inverse-once p a r s A B = inverted-only r s (inverse-unique p a _ _ A B)
+pub inverse-once : (r s : Inverted) {p a : ℕ} → InverseCall p a (invertedOf r) → InverseCall p a (invertedOf s) → r ≡ s
+inverse-once r s A B = inverted-only r s (inverse-unique A B)
 
-pub order-once : (p n : ℕ) (m v old : List ℕ) (r s : Ordered) (x y : List ℕ) → OrderCall p n m v old (orderedOf r) x → OrderCall p n m v old (orderedOf s) y
+pub order-once : (r s : Ordered) {p n : ℕ} {m v old x y : List ℕ} → OrderCall p n m v old (orderedOf r) x → OrderCall p n m v old (orderedOf s) y
     → (r ≡ s) × (x ≡ y)
-order-once p n m v old r s x y A B = let (e, f) = order-unique p n m v old _ _ x y A B in (ordered-only r s e, f)
+order-once r s A B = let (e, f) = order-unique A B in (ordered-only r s e, f)
 
-pub image-once : (p n : ℕ) (m v f old : List ℕ) (r s : Imaged) (x y : List ℕ) → ImageCall p n m v f old (imagedOf r) x
+pub image-once : (r s : Imaged) (p n : ℕ) (m v f : List ℕ) {old x y : List ℕ} → ImageCall p n m v f old (imagedOf r) x
     → ImageCall p n m v f old (imagedOf s) y → (r ≡ s) × (x ≡ y)
-image-once p n m v f old r s x y A B = let (e, d) = image-unique p n m v f old _ _ x y A B in (imaged-only r s e, d)
+image-once r s p n m v f A B = let (e, d) = image-unique p n m v f A B in (imaged-only r s e, d)
 
-pub stand-once : (p n : ℕ) (m cs : List ℕ) (a : ℕ) (old : List ℕ × List ℕ) (r s : Stood) (x y : List ℕ × List ℕ) → StandCall p n m cs a old (stoodOf r) x
+pub stand-once : (r s : Stood) {p n : ℕ} {m cs : List ℕ} {a : ℕ} {old x y : List ℕ × List ℕ} → StandCall p n m cs a old (stoodOf r) x
     → StandCall p n m cs a old (stoodOf s) y → (r ≡ s) × (x ≡ y)
-stand-once p n m cs a old r s x y A B = let (e, f) = stand-unique p n m cs a old _ _ x y A B in (stood-only r s e, f)
+stand-once r s A B = let (e, f) = stand-unique A B in (stood-only r s e, f)
 
-pub chain-once : (p n : ℕ) (m cs : List ℕ) (old : List ℕ × List ℕ) (r s : Chained) (x y : List ℕ × List ℕ) → ChainCall p n m cs old (chainedOf r) x
+pub chain-once : (r s : Chained) {p n : ℕ} {m cs : List ℕ} {old x y : List ℕ × List ℕ} → ChainCall p n m cs old (chainedOf r) x
     → ChainCall p n m cs old (chainedOf s) y → (r ≡ s) × (x ≡ y)
-chain-once p n m cs old r s x y A B = let (e, f) = chain-unique p n m cs old _ _ x y A B in (chained-only r s e, f)
+chain-once r s A B = let (e, f) = chain-unique A B in (chained-only r s e, f)
 
-pub period-once : (p n : ℕ) (m : List ℕ) (r s : Perioded) → PeriodCall p n m (periodedOf r) → PeriodCall p n m (periodedOf s) → r ≡ s
-period-once p n m r s A B = perioded-only r s (period-unique p n m _ _ A B)
+pub period-once : (r s : Perioded) (p n : ℕ) (m : List ℕ) → PeriodCall p n m (periodedOf r) → PeriodCall p n m (periodedOf s) → r ≡ s
+period-once r s p n m A B = perioded-only r s (period-unique p n m A B)

@@ -1,9 +1,10 @@
 -- What 01 calls the answers of the code: for each case of an answer its number or its values.
+--   countedAs s c w   what a stand returns: its standing, its counts and its witness
 --   invertedOf, orderedOf, imagedOf, stoodOf, chainedOf, periodedOf   a refusal with its number, or the result
 -- Assumes nothing.
 use mathlib.Core.Option.{Option, none, some}
 use Prim.Native.Nat.{ℕ}
-use Rattle.meaning.specs.Stand.{Outcome, proved, short}
+use Rattle.meaning.specs.Stand.{Standing, proved, short, Outcome}
 use Rattle.meaning.specs.Calls.{Answer, refused, given}
 use Rattle.calls.specs.declared.Inverted.{Inverted}
 use Rattle.calls.specs.declared.Inverted.the-variants as inverted
@@ -11,6 +12,7 @@ use Rattle.calls.specs.declared.Ordered.{Ordered}
 use Rattle.calls.specs.declared.Ordered.the-variants as ordered
 use Rattle.calls.specs.declared.Imaged.{Imaged}
 use Rattle.calls.specs.declared.Imaged.the-variants as imaged
+use Rattle.calls.specs.declared.Counts.{Counts}
 use Rattle.calls.specs.declared.Stood.{Stood}
 use Rattle.calls.specs.declared.Stood.the-variants as stood
 use Rattle.calls.specs.declared.Chained.{Chained}
@@ -30,9 +32,12 @@ abbrev pub imagedOf : Imaged → Answer (Unit {0})
 imagedOf imaged.Written = given tt
 imagedOf (imaged.Refused k) = refused k
 
+abbrev pub countedAs : Standing → Counts → ℕ → Outcome
+countedAs s c w = record { standing = s; degree = c .degree; taken = c .taken; spent = c .spent; witness = w }
+
 abbrev pub stoodOf : Stood → Answer Outcome
-stoodOf (stood.Proved c) = given (record { standing = proved; degree = c .degree; taken = c .taken; spent = c .spent; witness = 0 })
-stoodOf (stood.Short c w) = given (record { standing = short; degree = c .degree; taken = c .taken; spent = c .spent; witness = w })
+stoodOf (stood.Proved c) = given (countedAs proved c 0)
+stoodOf (stood.Short c w) = given (countedAs short c w)
 stoodOf (stood.Refused k) = refused k
 
 abbrev pub chainedOf : Chained → Answer ℕ

@@ -43,14 +43,17 @@ called-exists (some j) old h =
     (refused j, old, record { refusal = λ k e. (cc, refl); result = λ e. absurd (Option·none-ne-some j (sym e)) })
 
 -- and one result where its results are unique when nothing is refused
-pub called-unique : {A B : Type 0} {R : A → B → Type 0} (q : Option ℕ) (old : B) → (q ≡ none → (r s : A) (x y : B) → R r x → R s y → (r ≡ s) × (x ≡ y))
-    → (a b : Answer A) (x y : B) → Called q R old a x → Called q R old b y → (a ≡ b) × (x ≡ y)
-called-unique none old h a b x y A B =
-    let r = A .result refl in
-    let s = B .result refl in
-    let d = h refl (r .0) (s .0) x y (r .2) (s .2) in
-    (r .1 ∙ ap given (d .0) ∙ sym (s .1), d .1)
-called-unique (some k) old h a b x y A B =
-    let r = A .refusal k refl in
-    let s = B .refusal k refl in
-    (r .0 ∙ sym (s .0), r .1 ∙ sym (s .1))
+pub called-unique : {A B : Type 0} {R : A → B → Type 0} {q : Option ℕ} {old x y : B} {a b : Answer A}
+    → (q ≡ none → (r s : A) (u w : B) → R r u → R s w → (r ≡ s) × (u ≡ w)) → Called q R old a x → Called q R old b y → (a ≡ b) × (x ≡ y)
+called-unique {q = q} {x = x} {y = y} {a = a} {b = b} h A B = go q refl
+  where
+    go : (o : Option ℕ) → q ≡ o → (a ≡ b) × (x ≡ y)
+    go none e =
+        let r = A .result e in
+        let s = B .result e in
+        let d = h e (r .0) (s .0) x y (r .2) (s .2) in
+        (r .1 ∙ ap given (d .0) ∙ sym (s .1), d .1)
+    go (some k) e =
+        let r = A .refusal k e in
+        let s = B .refusal k e in
+        (r .0 ∙ sym (s .0), r .1 ∙ sym (s .1))

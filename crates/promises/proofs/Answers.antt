@@ -31,7 +31,7 @@ use Rattle.meaning.proofs.Refusal.{stand-sound, sound-stand}
 use Rattle.meaning.proofs.Unique.{lcm-least, least-lcm, witness-only}
 use Rattle.meaning.proofs.Degrees.{stand-degree}
 use Rattle.promises.specs.Run.{standOf}
-use Rattle.promises.specs.Additions.{added, Run, start, more, AfterAdditions}
+use Rattle.promises.specs.Additions.{FromBounds, added, Run, start, more, AfterAdditions}
 use Rattle.promises.specs.CallRun.{Buffers, shown, LongEnough, CallRun, first, again, EndsProved, CallsEnd}
 use Rattle.meaning.proofs.Called.{called-given}
 use Rattle.promises.proofs.Calls.{stand-exists}
@@ -88,52 +88,54 @@ answered {p} {n} {m} {cs} {a} {old} {new} {r} A =
       image = written n _ (old .1) (new .1) (R .witness) ∙ ap (bytes n) (witness-only (times p n m) f (shown p n new) c (r .standing) (r .witness));
     }
 
--- an answered call: the input is within the bounds, and the polynomial in the buffer is the stand's
-pub answer-sound : (p n : ℕ) (m cs : List ℕ) (a : ℕ) (old new : Buffers) (r : Outcome) → StandCall p n m cs a old (given r) new → Sound p n m × SoundRows p n cs
-answer-sound p n m cs a old new r A = (answered A .sound, answered A .list)
+-- of one answered call
+module _ {p n : ℕ} {m cs : List ℕ} {a : ℕ} {old new : Buffers} {r : Outcome} (A : StandCall p n m cs a old (given r) new) where
+  -- the input is within the bounds, the buffers are long enough, and the polynomial in the buffer is the stand's
+  pub answer-sound : Sound p n m × SoundRows p n cs
+  answer-sound = (answered A .sound, answered A .list)
 
-pub answer-stand : (p n : ℕ) (m cs : List ℕ) (a : ℕ) (old new : Buffers) (r : Outcome) → StandCall p n m cs a old (given r) new → IsStand p n m cs a r (shown p n new)
-answer-stand p n m cs a old new r A = answered A .stand
+  pub answer-room : LongEnough n old
+  answer-room =
+      let K = stand-sound p n m cs (old .0) (old .1) (called-given A .0) in
+      (K .2, K .3)
 
--- demand 2: proved exactly when the polynomial in the buffer is the minimal polynomial
-pub answer-minimal : (p n : ℕ) (m cs : List ℕ) (a : ℕ) (old new : Buffers) (r : Outcome) → StandCall p n m cs a old (given r) new
-    → (r .standing ≡ proved → IsMinimal p n m (r .degree) (shown p n new)) × (KillsEvery n (times p n m) (shown p n new) → r .standing ≡ proved)
-answer-minimal p n m cs a old new r A =
-    let S = answered A .stand in
-    (proved-minimal n m cs a r (shown p n new) S, minimal-proved n m cs a r (shown p n new) S)
+  pub answer-stand : IsStand p n m cs a r (shown p n new)
+  answer-stand = answered A .stand
 
--- else short, with the first unit row that it does not send to zero, and that row's image in the witness buffer
-pub answer-short : (p n : ℕ) (m cs : List ℕ) (a : ℕ) (old new : Buffers) (r : Outcome) → StandCall p n m cs a old (given r) new → r .standing ≡ short
-    → FirstUnsent (times p n m) n (shown p n new) (r .witness) × (take n (new .1) ≡ bytes n (act (times p n m) (shown p n new) (e (r .witness))))
-answer-short p n m cs a old new r A q = (short-witness n m cs a r (shown p n new) (answered A .stand) q, rw q at (answered A .image))
+  -- demand 2: proved exactly when the polynomial in the buffer is the minimal polynomial
+  pub answer-minimal : (r .standing ≡ proved → IsMinimal p n m (r .degree) (shown p n new)) × (KillsEvery n (times p n m) (shown p n new) → r .standing ≡ proved)
+  answer-minimal = (proved-minimal answer-stand, minimal-proved answer-stand)
+
+  -- else short, with the first unit row that it does not send to zero, and that row's image in the witness buffer
+  pub answer-short : r .standing ≡ short
+      → FirstUnsent (times p n m) n (shown p n new) (r .witness) × (take n (new .1) ≡ bytes n (act (times p n m) (shown p n new) (e (r .witness))))
+  answer-short q = (short-witness answer-stand q, rw q at (answered A .image))
 
 -- demand 3, first sentence: more rows behind, a larger allowance, or both
-pub answer-more : (p n : ℕ) (m cs ds : List ℕ) (a b : ℕ) → a ≤ b → (old new old′ new′ : Buffers) (r s : Outcome) → StandCall p n m cs a old (given r) new
-    → StandCall p n m (cs ++ ds) b old′ (given s) new′
+pub answer-more : {p n : ℕ} {m cs : List ℕ} {a b : ℕ} {old new old′ new′ : Buffers} {r s : Outcome} (ds : List ℕ) → a ≤ b
+    → StandCall p n m cs a old (given r) new → StandCall p n m (cs ++ ds) b old′ (given s) new′
     → (shown p n new ∣ shown p n new′) × (r .standing ≡ proved → (s .standing ≡ proved) × (r .degree ≡ s .degree) × (take (suc n) (new .0) ≡ take (suc n) (new′ .0)))
-answer-more p n m cs ds a b le old new old′ new′ r s A B =
+answer-more {n} ds le A B =
     let C = answered A in
     let D = answered B in
     let P = C .sound .prime in
-    let z = C .sound .some-size in
-    let f = shown p n new in
-    let g = shown p n new′ in (
-      more-divides P n z m cs ds _ (C .list .whole) a b le r s f g (C .stand) (D .stand),
-      λ q. let k = more-keeps P n z m cs ds _ (C .list .whole) a b le r s f g (C .stand) (D .stand) q in
+    let z = C .sound .some-size in (
+      more-divides ds P z (C .list .whole) le (C .stand) (D .stand),
+      λ q. let k = more-keeps ds P z (C .list .whole) le (C .stand) (D .stand) q in
           (k .0, k .1, C .polynomial ∙ ap (bytes (suc n)) (k .2) ∙ sym (D .polynomial)),
     )
 
 -- second sentence: another sequence of the rows, where all are taken
-pub answer-reordered : (p n : ℕ) (m cs ds : List ℕ) → Perm (byteRows n cs) (byteRows n ds) → (a : ℕ) (old new old′ new′ : Buffers) (r s : Outcome)
+pub answer-reordered : {p n : ℕ} {m cs ds : List ℕ} {a : ℕ} {old new old′ new′ : Buffers} {r s : Outcome} → Perm (byteRows n cs) (byteRows n ds)
     → StandCall p n m cs a old (given r) new → StandCall p n m ds a old′ (given s) new′ → r .taken ≡ length (rows p n cs)
     → (s ≡ r) × (take (suc n) (new′ .0) ≡ take (suc n) (new .0)) × (take n (new′ .1) ≡ take n (new .1)) × (s .taken ≡ length (rows p n ds))
-answer-reordered p n m cs ds π a old new old′ new′ r s A B h =
+answer-reordered {p} {n} {m} {new = new} {new′ = new′} {s = s} π A B h =
     let C = answered A in
     let D = answered B in
     let X = times p n m in
     let f = shown p n new in
     let g = shown p n new′ in
-    let (same, c, all) = reordered (C .sound .prime) n m cs ds π a r s f g (C .stand) (D .stand) h in
+    let (same, c, all) = reordered (C .sound .prime) π (C .stand) (D .stand) h in
     let w = witness-only X g f c (s .standing) (s .witness) ∙ ap (λ (o : Outcome). witnessRow X f (o .standing) (o .witness)) same in
     (same, D .polynomial ∙ ap (bytes (suc n)) c ∙ sym (C .polynomial), D .image ∙ ap (bytes n) w ∙ sym (C .image), all)
 
@@ -146,42 +148,34 @@ call-sound : {p n : ℕ} {m cs ds : List ℕ} {a k : ℕ} {r s : Outcome} → Ca
 call-sound (first old new A) = (answered A .sound, answered A .list)
 call-sound (again old new R q A) = call-sound R
 
--- each is bounded as promised
-pub calls-bounded : (p n : ℕ) (m cs : List ℕ) (a : ℕ) → length cs / n ≤ 64 → 8192 ≤ a → (r s : Outcome) (k : ℕ) (ds : List ℕ) → CallRun p n m a cs r k ds s → AfterAdditions p n r k ds s
-calls-bounded p n m cs a h le r s k ds R =
-    let (A, B) = call-sound R in
-    additions-bounded p n m cs A B h a le r s k ds (call-run R)
+-- of a run within the bounds of the last sentence
+module _ {p n : ℕ} {m cs ds : List ℕ} {a k : ℕ} {r s : Outcome} (F : FromBounds n cs a) (R : CallRun p n m a cs r k ds s) where
+  -- each call is bounded as promised
+  pub calls-bounded : AfterAdditions p n r k ds s
+  calls-bounded =
+      let (A, B) = call-sound R in
+      additions-bounded A B F (call-run R)
 
--- and after a short answer so is the next
-calls-next : (p n : ℕ) (m cs : List ℕ) (a : ℕ) → length cs / n ≤ 64 → 8192 ≤ a → (r s : Outcome) (k : ℕ) (ds : List ℕ) → CallRun p n m a cs r k ds s → s .standing ≡ short
-    → AfterAdditions p n r (suc k) (added p n ds s) (standOf p n m (added p n ds s) a)
-calls-next p n m cs a h le r s k ds R q =
-    let (A, B) = call-sound R in
-    additions-bounded p n m cs A B h a le r _ _ _ (run-next (A .prime) (call-run R) q)
+  -- and after a short answer so is the next
+  calls-next : s .standing ≡ short → AfterAdditions p n r (suc k) (added p n ds s) (standOf p n m (added p n ds s) a)
+  calls-next q =
+      let (A, B) = call-sound R in
+      additions-bounded A B F (run-next (A .prime) (call-run R) q)
 
--- a short answer can be followed by a call that is not refused, whatever the buffers hold
-pub calls-again : (p n : ℕ) (m cs : List ℕ) (a : ℕ) → length cs / n ≤ 64 → 8192 ≤ a → (r s : Outcome) (k : ℕ) (ds : List ℕ) → CallRun p n m a cs r k ds s → s .standing ≡ short
-    → (old new : Buffers) → LongEnough n old → (x : Answer Outcome) → StandCall p n m (added p n ds s) a old x new → (t : Outcome) × (x ≡ given t)
-calls-again p n m cs a h le r s k ds R q old new l x A =
-    let N = calls-next p n m cs a h le r s k ds R q in
-    let t = A .result (sound-stand p n m (added p n ds s) (old .0) (old .1) (call-sound R .0) (N .sound) (l .0) (l .1)) in
-    (t .0, t .1)
+  -- a short answer can be followed by a call that is not refused, whatever the buffers hold
+  pub calls-again : s .standing ≡ short → {old new : Buffers} → LongEnough n old → {x : Answer Outcome} → StandCall p n m (added p n ds s) a old x new
+      → (t : Outcome) × (x ≡ given t)
+  calls-again q {old} l A =
+      let t = A .result (sound-stand p n m (added p n ds s) (old .0) (old .1) (call-sound R .0) (calls-next q .sound) (l .0) (l .1)) in
+      (t .0, t .1)
 
--- and no run has more than n − d additions, d the first degree: so a run that goes on while the answer is short ends in proved
-pub calls-few : (p n : ℕ) (m cs : List ℕ) (a : ℕ) → length cs / n ≤ 64 → 8192 ≤ a → (r s : Outcome) (k : ℕ) (ds : List ℕ) → CallRun p n m a cs r k ds s
-    → (k ≤ n - r .degree) × (k ≡ n - r .degree → s .standing ≡ proved)
-calls-few p n m cs a h le r s k ds R =
-    (omega (arith, calls-bounded p n m cs a h le r s k ds R), λ c. go c (s .standing) refl)
-  where
-    go : k ≡ n - r .degree → (t : Standing) → s .standing ≡ t → s .standing ≡ proved
-    go c proved q = q
-    go c short q = absurd (omega (arith, calls-next p n m cs a h le r s k ds R q))
-
--- the buffers of an answered call are long enough
-pub answer-room : (p n : ℕ) (m cs : List ℕ) (a : ℕ) (old new : Buffers) (r : Outcome) → StandCall p n m cs a old (given r) new → LongEnough n old
-answer-room p n m cs a old new r A =
-    let K = stand-sound p n m cs (old .0) (old .1) (called-given A .0) in
-    (K .2, K .3)
+  -- and no run has more than n − d additions, d the first degree: so a run that goes on while the answer is short ends in proved
+  pub calls-few : (k ≤ n - r .degree) × (k ≡ n - r .degree → s .standing ≡ proved)
+  calls-few = (omega (arith, calls-bounded), λ c. go c (s .standing) refl)
+    where
+      go : k ≡ n - r .degree → (t : Standing) → s .standing ≡ t → s .standing ≡ proved
+      go c proved q = q
+      go c short q = absurd (omega (arith, calls-next q))
 
 -- the last call of a run: a run of no additions, and its buffers
 call-last : {p n : ℕ} {m cs ds : List ℕ} {a k : ℕ} {r s : Outcome} → CallRun p n m a cs r k ds s → CallRun p n m a ds s zero ds s
@@ -189,8 +183,8 @@ call-last (first old new A) = first old new A
 call-last (again old new R q A) = first old new A
 
 call-room : {p n : ℕ} {m cs ds : List ℕ} {a k : ℕ} {r s : Outcome} → CallRun p n m a cs r k ds s → (old : Buffers) × LongEnough n old
-call-room (first old new A) = (old, answer-room _ _ _ _ _ old new _ A)
-call-room (again old new R q A) = (old, answer-room _ _ _ _ _ old new _ A)
+call-room (first old new A) = (old, answer-room A)
+call-room (again old new R q A) = (old, answer-room A)
 
 -- a run, and one from its last call on, are one run
 pub call-join : {p n : ℕ} {m cs ds es : List ℕ} {a k j : ℕ} {r s t : Outcome} → CallRun p n m a cs r k ds s → CallRun p n m a ds s j es t
@@ -204,28 +198,24 @@ ends-before : {p n : ℕ} {m cs ds : List ℕ} {a i j : ℕ} {r s : Outcome} →
 ends-before R l E =
     record { additions = 1 + E .additions; list = E .list; last = E .last; run = call-join R (E .run); ended = E .ended; few = omega (arith, E .few) }
 
--- the last sentence as one: from a first call that is answered, on at most 64 rows, with an allowance of 8,192 or more, a run ends in proved within
--- n − d additions, and every run does
-pub calls-end : (p n : ℕ) (m cs : List ℕ) (a : ℕ) → length cs / n ≤ 64 → 8192 ≤ a → (old new : Buffers) (r : Outcome)
-    → StandCall p n m cs a old (given r) new → CallsEnd p n m a cs r
-calls-end p n m cs a h le old new r A =
+-- the last sentence as one: from a first call that is answered, within those bounds, a run ends in proved within n − d additions, and every run does
+pub calls-end : {p n : ℕ} {m cs : List ℕ} {a : ℕ} {old new : Buffers} {r : Outcome} → FromBounds n cs a → StandCall p n m cs a old (given r) new
+    → CallsEnd p n m a cs r
+calls-end {p} {n} {m} {cs} {a} {old} {new} {r} F A =
     record {
       some-run = simp unary-clauses at (finishes (first old new A));
-      few = λ R. few R .0;
-      full = λ R. few R .1;
+      few = λ R. calls-few F R .0;
+      full = λ R. calls-few F R .1;
       next = next;
-      unrefused = calls-again p n m cs a h le r _ _ _;
+      unrefused = λ R q lent left l x C. calls-again F R q l C;
       finishes = finishes;
     }
   where
-    few : {k : ℕ} {ds : List ℕ} {s : Outcome} → CallRun p n m a cs r k ds s → (k ≤ n - r .degree) × (k ≡ n - r .degree → s .standing ≡ proved)
-    few R = calls-few p n m cs a h le r _ _ _ R
-
     next : {k : ℕ} {ds : List ℕ} {s : Outcome} → CallRun p n m a cs r k ds s → s .standing ≡ short → (lent : Buffers) → LongEnough n lent
         → (t : Outcome) × (left : Buffers) × StandCall p n m (added p n ds s) a lent (given t) left
-    next {k} {ds} {s} R q lent l =
+    next {ds = ds} {s = s} R q lent l =
         let (x, left, C) = stand-exists p n m (added p n ds s) a lent in
-        let (t, y) = calls-again p n m cs a h le r s k ds R q lent left l x C in
+        let (t, y) = calls-again F R q l C in
         (t, left, subst (λ z. StandCall p n m (added p n ds s) a lent z left) y C)
 
     -- the next call, behind the run and behind its last call alone
@@ -244,11 +234,11 @@ calls-end p n m cs a h le old new r A =
     -- j bounds the additions to come
     go : (j : ℕ) {k : ℕ} {ds : List ℕ} {s : Outcome} → CallRun p n m a cs r k ds s → n - r .degree ≤ k + j
         → EndsProved p n m a ds s (n - r .degree - k)
-    go zero {s = s} R l = ended R (s .standing) refl (λ q. absurd (omega (arith, few (onward R q .1) .0)))
+    go zero {s = s} R l = ended R (s .standing) refl (λ q. absurd (omega (arith, calls-few F (onward R q .1) .0)))
     go (suc j) {s = s} R l =
         ended R (s .standing) refl (λ q.
         let (t, T, one) = onward R q in
-        ends-before one (omega (arith, few T .0)) (go j T (omega arith)))
+        ends-before one (omega (arith, calls-few F T .0)) (go j T (omega arith)))
 
     finishes : {k : ℕ} {ds : List ℕ} {s : Outcome} → CallRun p n m a cs r k ds s → EndsProved p n m a ds s (n - r .degree - k)
     finishes R = go n R (omega arith)

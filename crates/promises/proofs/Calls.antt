@@ -25,9 +25,8 @@ inverse-exists p a =
     let c = called-exists (inverseRefusal p a) tt (λ q. let k = inverse-sound p a q in (_, tt, inverse-found p a (k .0) (k .2))) in
     (c .0, c .2)
 
-pub inverse-unique : (p a : ℕ) (x y : Answer ℕ) → InverseCall p a x → InverseCall p a y → x ≡ y
-inverse-unique p a x y A B =
-    called-unique _ tt (λ q r s u w C D. let k = inverse-sound p a q in (inverse-only p a r s (k .0) (k .2) C D, refl)) x y tt tt A B .0
+pub inverse-unique : {p a : ℕ} {x y : Answer ℕ} → InverseCall p a x → InverseCall p a y → x ≡ y
+inverse-unique {p} {a} A B = called-unique (λ q r s u w C D. let k = inverse-sound p a q in (inverse-only p a r s (k .0) (k .2) C D, refl)) A B .0
 
 unfoldable pub order-exists : (p n : ℕ) (m v old : List ℕ) → (answer : Answer ℕ) × (new : List ℕ) × OrderCall p n m v old answer new
 order-exists p n m v old =
@@ -35,18 +34,18 @@ order-exists p n m v old =
     let k = order-sound p n m v old q in
     (_, _, record { poly = _; order = order-found (k .0 .prime) n m v (k .1); buffer = refl }))
 
-pub order-unique : (p n : ℕ) (m v old : List ℕ) (x y : Answer ℕ) (s t : List ℕ) → OrderCall p n m v old x s → OrderCall p n m v old y t → (x ≡ y) × (s ≡ t)
-order-unique p n m v old =
-    called-unique _ old (λ q r u b d C D.
+pub order-unique : {p n : ℕ} {m v old s t : List ℕ} {x y : Answer ℕ} → OrderCall p n m v old x s → OrderCall p n m v old y t → (x ≡ y) × (s ≡ t)
+order-unique {p} {n} {m} {v} {old} =
+    called-unique (λ q r u b d C D.
     let o = order-only (order-sound p n m v old q .0 .prime) n m (row p v) (C .order) (D .order) in
     (o .0, cc))
 
 unfoldable pub image-exists : (p n : ℕ) (m v f old : List ℕ) → (answer : Answer (Unit {0})) × (new : List ℕ) × ImageCall p n m v f old answer new
 image-exists p n m v f old = called-exists _ old (λ q. (tt, _, refl))
 
-pub image-unique : (p n : ℕ) (m v f old : List ℕ) (x y : Answer (Unit {0})) (s t : List ℕ) → ImageCall p n m v f old x s → ImageCall p n m v f old y t
+pub image-unique : (p n : ℕ) (m v f : List ℕ) {old s t : List ℕ} {x y : Answer (Unit {0})} → ImageCall p n m v f old x s → ImageCall p n m v f old y t
     → (x ≡ y) × (s ≡ t)
-image-unique p n m v f old = called-unique _ old (λ q r u b d C D. (refl, C ∙ sym D))
+image-unique p n m v f = called-unique (λ q r u b d C D. (refl, C ∙ sym D))
 
 unfoldable pub stand-exists : (p n : ℕ) (m cs : List ℕ) (a : ℕ) (old : List ℕ × List ℕ)
     → (answer : Answer Outcome) × (new : List ℕ × List ℕ) × StandCall p n m cs a old answer new
@@ -55,10 +54,10 @@ stand-exists p n m cs a old =
     let k = stand-sound p n m cs (old .0) (old .1) q in
     (_, (_, _), record { poly = _; stand = stand-found (k .0 .prime) n m cs a; polynomial = refl; witness = refl }))
 
-pub stand-unique : (p n : ℕ) (m cs : List ℕ) (a : ℕ) (old : List ℕ × List ℕ) (x y : Answer Outcome) (s t : List ℕ × List ℕ)
-    → StandCall p n m cs a old x s → StandCall p n m cs a old y t → (x ≡ y) × (s ≡ t)
-stand-unique p n m cs a old =
-    called-unique _ old (λ q r u b d C D.
+pub stand-unique : {p n : ℕ} {m cs : List ℕ} {a : ℕ} {old s t : List ℕ × List ℕ} {x y : Answer Outcome} → StandCall p n m cs a old x s
+    → StandCall p n m cs a old y t → (x ≡ y) × (s ≡ t)
+stand-unique {p} {n} {m} {cs} {a} {old} =
+    called-unique (λ q r u b d C D.
     let k = stand-sound p n m cs (old .0) (old .1) q in
     let o = stand-only (k .0 .prime) n m cs a r u (C .poly) (D .poly) (C .stand) (D .stand) in
     let w = witness-only (times p n m) (C .poly) (D .poly) (o .1) (r .standing) (r .witness) in
@@ -71,10 +70,10 @@ chain-exists p n m cs old =
     let k = chain-sound p n m cs (old .0) (old .1) q in
     (_, (_, _), record { stages = _; chain = chain-found (k .0 .prime) n m cs; number = refl; product = refl; record-bytes = refl }))
 
-pub chain-unique : (p n : ℕ) (m cs : List ℕ) (old : List ℕ × List ℕ) (x y : Answer ℕ) (s t : List ℕ × List ℕ)
-    → ChainCall p n m cs old x s → ChainCall p n m cs old y t → (x ≡ y) × (s ≡ t)
-chain-unique p n m cs old =
-    called-unique _ old (λ q r u b d C D.
+pub chain-unique : {p n : ℕ} {m cs : List ℕ} {old s t : List ℕ × List ℕ} {x y : Answer ℕ} → ChainCall p n m cs old x s → ChainCall p n m cs old y t
+    → (x ≡ y) × (s ≡ t)
+chain-unique {p} {n} {m} {cs} {old} =
+    called-unique (λ q r u b d C D.
     let k = chain-sound p n m cs (old .0) (old .1) q in
     let o = chain-only (k .0 .prime) n m cs (C .stages) (D .stages) (C .chain) (D .chain) in
     let e = alike-length (C .stages) (D .stages) o in
@@ -87,5 +86,5 @@ period-exists p n m =
     let c = called-exists (periodRefusal p n m) tt (λ q. (periodOf p n m, tt, period-found p n m)) in
     (c .0, c .2)
 
-pub period-unique : (p n : ℕ) (m : List ℕ) (x y : Answer (Option ℕ)) → PeriodCall p n m x → PeriodCall p n m y → x ≡ y
-period-unique p n m x y A B = called-unique _ tt (λ q r s u w C D. (period-only p n m r s C D, refl)) x y tt tt A B .0
+pub period-unique : (p n : ℕ) (m : List ℕ) {x y : Answer (Option ℕ)} → PeriodCall p n m x → PeriodCall p n m y → x ≡ y
+period-unique p n m A B = called-unique (λ q r s u w C D. (period-only p n m r s C D, refl)) A B .0

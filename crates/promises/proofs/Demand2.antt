@@ -30,37 +30,34 @@ e-units X n f h i l = subst (λ j. Kills X (unit j) f) (omega arith) (h (suc i) 
 taken-below : (p n : ℕ) (cs : List ℕ) (t : ℕ) → AllBelow n (take t (rows p n cs))
 taken-below p n cs t = below-take n t (rows p n cs) (rows-below p n cs)
 
--- the lcm of the taken rows' orders is the least monic polynomial that sends every taken row to zero
-pub polynomial-least : {p : ℕ} (n : ℕ) (m cs : List ℕ) (a : ℕ) (r : Outcome) (f : Poly p) → IsStand p n m cs a r f
-    → Least (KillsAll (times p n m) (take (r .taken) (rows p n cs))) (r .degree) f
-polynomial-least = stand-least
+-- all of these of one stand
+module _ {p n : ℕ} {m cs : List ℕ} {a : ℕ} {r : Outcome} {f : Poly p} (A : IsStand p n m cs a r f) where
+  -- the lcm of the taken rows' orders is the least monic polynomial that sends every taken row to zero
+  pub polynomial-least : Least (KillsAll (times p n m) (take (r .taken) (rows p n cs))) (r .degree) f
+  polynomial-least = stand-least n m cs a r f A
 
--- it divides whatever sends M to zero
-pub polynomial-divides : {p : ℕ} (n : ℕ) (m cs : List ℕ) (a : ℕ) (r : Outcome) (f : Poly p) → IsStand p n m cs a r f
-    → (g : Poly p) → KillsEvery n (times p n m) g → f ∣ g
-polynomial-divides {p} n m cs a r f A g h =
-    let vs = take (r .taken) (rows p n cs) in
-    least-divides (kills-all-ideal (times-linear p n m) vs) (polynomial-least n m cs a r f A) g
-    (kills-every-all (times p n m) n vs (taken-below p n cs (r .taken)) g h)
+  -- it divides whatever sends M to zero
+  pub polynomial-divides : (g : Poly p) → KillsEvery n (times p n m) g → f ∣ g
+  polynomial-divides g h =
+      let vs = take (r .taken) (rows p n cs) in
+      least-divides (kills-all-ideal (times-linear p n m) vs) polynomial-least g
+      (kills-every-all (times p n m) n vs (taken-below p n cs (r .taken)) g h)
 
--- proved: F sends M to zero, and no nonzero polynomial of lower degree does
-pub proved-minimal : {p : ℕ} (n : ℕ) (m cs : List ℕ) (a : ℕ) (r : Outcome) (f : Poly p) → IsStand p n m cs a r f → r .standing ≡ proved
-    → IsMinimal p n m (r .degree) f
-proved-minimal {p} n m cs a r f A q =
-    let t = rw q at (A .tested) in
-    let vs = take (r .taken) (rows p n cs) in
-    least-minimal (times-linear p n m) n vs (taken-below p n cs (r .taken)) (polynomial-least n m cs a r f A) (e-units _ n f (t .0))
+  -- proved: F sends M to zero, and no nonzero polynomial of lower degree does
+  pub proved-minimal : r .standing ≡ proved → IsMinimal p n m (r .degree) f
+  proved-minimal q =
+      let t = rw q at (A .tested) in
+      let vs = take (r .taken) (rows p n cs) in
+      least-minimal (times-linear p n m) n vs (taken-below p n cs (r .taken)) polynomial-least (e-units _ n f (t .0))
 
--- and only then
-pub minimal-proved : {p : ℕ} (n : ℕ) (m cs : List ℕ) (a : ℕ) (r : Outcome) (f : Poly p) → IsStand p n m cs a r f
-    → KillsEvery n (times p n m) f → r .standing ≡ proved
-minimal-proved {p} n m cs a r f A h = go (r .standing) refl
-  where
-    go : (s : Standing) → r .standing ≡ s → r .standing ≡ proved
-    go proved q = q
-    go short q = let t = rw q at (A .tested) in absurd (t .unsent (h (e (r .witness)) (e-below n _ (t .from) (t .to))))
+  -- and only then
+  pub minimal-proved : KillsEvery n (times p n m) f → r .standing ≡ proved
+  minimal-proved h = go (r .standing) refl
+    where
+      go : (s : Standing) → r .standing ≡ s → r .standing ≡ proved
+      go proved q = q
+      go short q = let t = rw q at (A .tested) in absurd (t .unsent (h (e (r .witness)) (e-below n _ (t .from) (t .to))))
 
--- short: the witness is the first unit row that F does not send to zero
-pub short-witness : {p : ℕ} (n : ℕ) (m cs : List ℕ) (a : ℕ) (r : Outcome) (f : Poly p) → IsStand p n m cs a r f → r .standing ≡ short
-    → FirstUnsent (times p n m) n f (r .witness)
-short-witness n m cs a r f A q = rw q at (A .tested)
+  -- short: the witness is the first unit row that F does not send to zero
+  pub short-witness : r .standing ≡ short → FirstUnsent (times p n m) n f (r .witness)
+  short-witness q = rw q at (A .tested)

@@ -30,14 +30,14 @@ use Rattle.algebra.proofs.Orders.{kills-all-ideal, kills-every-ideal, kills-las
 use Rattle.algebra.proofs.Chain.{annihilator}
 use Rattle.meaning.specs.Bytes.{Small, row, times, byteRows, rows, e, bytes}
 use Rattle.meaning.specs.Stand.{sum, degs, Standing, proved, short, Outcome, IsStand}
-use Rattle.meaning.specs.Bounds.{Sound, SoundRows}
+use Rattle.meaning.specs.Bounds.{mostCandidates, fullAllowance, Sound, SoundRows}
 use Rattle.meaning.proofs.Bytes.{times-machine, times-linear, e-below, bytes-length, bytes-small, row-bytes, rows-count, rows-below, rows-append, rows-one}
 use Rattle.meaning.proofs.Refusal.{small-append}
 use Rattle.meaning.proofs.Unique.{alike-degs, tested-only, outcome-path}
 use Rattle.promises.specs.Run.{ordersOf, standOf}
 use Rattle.meaning.proofs.Degrees.{orders-count, stand-degree, order-degree}
 use Rattle.promises.proofs.Found.{ordersOf-orders, stand-found}
-use Rattle.promises.specs.Additions.{added, Run, start, more, AfterAdditions, RunProved}
+use Rattle.promises.specs.Additions.{FromBounds, added, Run, start, more, AfterAdditions, RunProved}
 use Rattle.promises.proofs.Demand2.{polynomial-least, polynomial-divides, proved-minimal, minimal-proved, short-witness}
 
 -- rows and their orders, one for each
@@ -77,36 +77,33 @@ module _ {p n : ℕ} {m cs : List ℕ} {a : ℕ} {r : Outcome} {f : Poly p} (A :
   least-all : r .taken ≡ length (rows p n cs) → Least (KillsAll (times p n m) (rows p n cs)) (r .degree) f
   least-all h =
       subst (λ vs. Least (KillsAll (times p n m) vs) (r .degree) f) (take-all (r .taken) (rows p n cs) (le-of-eq (sym h)))
-      (polynomial-least n m cs a r f A)
+      (polynomial-least A)
 
 -- (a) a longer list with the same front, a larger allowance, or both: as many rows or more are taken, the polynomial divides the new one
-pub more-taken : {p : ℕ} → Prime p → (n : ℕ) → 0 < n → (m cs ds : List ℕ) (k : ℕ) → length cs ≡ k * n → (a b : ℕ) → a ≤ b → (r s : Outcome) (f g : Poly p)
-    → IsStand p n m cs a r f → IsStand p n m (cs ++ ds) b s g → r .taken ≤ s .taken
-more-taken {p} P n z m cs ds k q a b le r s f g A B =
-    let w = rows-append p n z k cs ds q in
-    let t = taken-within A in
-    let l = stand-count B ∙ ap length w ∙ length-append (rows p n cs) _ in
-    let O = subst (λ vs. Orders (times p n m) vs (B .orders)) w (B .each) in
-    let c = ap sum (orders-front P (times-linear p n m) (rows p n cs) _ (A .orders) (B .orders) (A .each) O (r .taken) t) in
-    B .front .longest (r .taken) (omega arith) (omega (arith, A .front .affordable))
+module _ {p n : ℕ} {m cs : List ℕ} {a b : ℕ} {r s : Outcome} {f g : Poly p} (ds : List ℕ) (P : Prime p) (z : 0 < n)
+    (q : length cs ≡ length cs / n * n) (le : a ≤ b) (A : IsStand p n m cs a r f) (B : IsStand p n m (cs ++ ds) b s g) where
+  pub more-taken : r .taken ≤ s .taken
+  more-taken =
+      let w = rows-append p n z (length cs / n) cs ds q in
+      let t = taken-within A in
+      let l = stand-count B ∙ ap length w ∙ length-append (rows p n cs) _ in
+      let O = subst (λ vs. Orders (times p n m) vs (B .orders)) w (B .each) in
+      let c = ap sum (orders-front P (times-linear p n m) (rows p n cs) _ (A .orders) (B .orders) (A .each) O (r .taken) t) in
+      B .front .longest (r .taken) (omega arith) (omega (arith, A .front .affordable))
 
-pub more-divides : {p : ℕ} → Prime p → (n : ℕ) → 0 < n → (m cs ds : List ℕ) (k : ℕ) → length cs ≡ k * n → (a b : ℕ) → a ≤ b → (r s : Outcome) (f g : Poly p)
-    → IsStand p n m cs a r f → IsStand p n m (cs ++ ds) b s g → f ∣ g
-more-divides {p} P n z m cs ds k q a b le r s f g A B =
-    let X = times p n m in
-    let w = ap (take (r .taken)) (rows-append p n z k cs ds q) ∙ take-append-le (r .taken) (rows p n cs) _ (taken-within A) in
-    let t = more-taken P n z m cs ds k q a b le r s f g A B in
-    least-inside (kills-all-ideal (times-linear p n m) (take (r .taken) (rows p n cs))) (λ h K. subst (λ vs. KillsAll X vs h) w (kills-take X _ h (r .taken) (s .taken) t K))
-    (polynomial-least n m cs a r f A) (polynomial-least n m _ b s g B)
+  pub more-divides : f ∣ g
+  more-divides =
+      let X = times p n m in
+      let w = ap (take (r .taken)) (rows-append p n z (length cs / n) cs ds q) ∙ take-append-le (r .taken) (rows p n cs) _ (taken-within A) in
+      least-inside (kills-all-ideal (times-linear p n m) (take (r .taken) (rows p n cs)))
+      (λ h K. subst (λ vs. KillsAll X vs h) w (kills-take X _ h (r .taken) (s .taken) more-taken K)) (polynomial-least A) (polynomial-least B)
 
--- and a proved polynomial stays, with its mark
-pub more-keeps : {p : ℕ} → Prime p → (n : ℕ) → 0 < n → (m cs ds : List ℕ) (k : ℕ) → length cs ≡ k * n → (a b : ℕ) → a ≤ b → (r s : Outcome) (f g : Poly p)
-    → IsStand p n m cs a r f → IsStand p n m (cs ++ ds) b s g → r .standing ≡ proved → (s .standing ≡ proved) × (r .degree ≡ s .degree) × (coef f ≡ coef g)
-more-keeps {p} P n z m cs ds k q a b le r s f g A B h =
-    let K = proved-minimal n m cs a r f A h .member in
-    let to = more-divides P n z m cs ds k q a b le r s f g A B in
-    let c = divides-antisym P (r .degree) (s .degree) f g (A .common .monic) (B .common .monic) to (polynomial-divides n m _ b s g B f K) in
-    (minimal-proved n m _ b s g B (kills-every-ideal (times-linear p n m) n .resp f g (c .1) K), c .0, c .1)
+  -- and a proved polynomial stays, with its mark
+  pub more-keeps : r .standing ≡ proved → (s .standing ≡ proved) × (r .degree ≡ s .degree) × (coef f ≡ coef g)
+  more-keeps h =
+      let K = proved-minimal A h .member in
+      let c = divides-antisym P (r .degree) (s .degree) f g (A .common .monic) (B .common .monic) more-divides (polynomial-divides B f K) in
+      (minimal-proved B (kills-every-ideal (times-linear p n m) n .resp f g (c .1) K), c .0, c .1)
 
 -- what another sequence of the rows does not change: a sum over them, their number, and what sends them all to zero
 perm-sum : (w : List ℕ → ℕ) {bs ds : List (List ℕ)} → List·Permᴰ bs ds → sum (map w bs) ≡ sum (map w ds)
@@ -150,10 +147,10 @@ S-set : {p : ℕ} → IsSet (S p)
 S-set = Π-set (λ i. hedberg (λ a b. map-dec fp-path (ap (λ c. c .val)) (ℕ-discrete (a .val) (b .val))))
 
 -- (b) where all are taken, another sequence of the same rows changes nothing: all are taken again, with the same polynomial, mark and unit row
-pub reordered : {p : ℕ} → Prime p → (n : ℕ) (m cs ds : List ℕ) → Perm (byteRows n cs) (byteRows n ds) → (a : ℕ) (r s : Outcome) (f g : Poly p)
+pub reordered : {p n : ℕ} {m cs ds : List ℕ} {a : ℕ} {r s : Outcome} {f g : Poly p} → Prime p → Perm (byteRows n cs) (byteRows n ds)
     → IsStand p n m cs a r f → IsStand p n m ds a s g → r .taken ≡ length (rows p n cs) → (s ≡ r) × (coef g ≡ coef f) × (s .taken ≡ length (rows p n ds))
 unfolding rows
-reordered {p} P n m cs ds π a r s f g A B h =
+reordered {p} {n} {m} {cs} {ds} {a} {r} {s} {f} {g} P π A B h =
     let w = tested-only X n g f (same .1) (s .standing) (r .standing) (s .witness) (r .witness) (B .tested) (A .tested) in
     let count = all ∙ length-map (byteRows n ds) (row p) ∙ number ∙ sym (length-map (byteRows n cs) (row p)) ∙ sym h in
     (outcome-path s r (w .0) (same .0) count (spent-all B all ∙ cost ∙ sym (spent-all A h)) (w .1), same .1, all)
@@ -176,8 +173,8 @@ reordered {p} P n m cs ds π a r s f g A B h =
         (λ d. least-unique P (kills-all-ideal (times-linear p n m) (rows p n cs))
         (least-same (λ k. perm-kills X k (Permᴰ·symm d)) (λ k. perm-kills X k d) (least-all B all)) (least-all A h))
 
--- (c) adding reported unit rows, from at most 64 rows and an allowance of 8,192 or more. Each addition raises the degree, which never passes n;
--- the list never passes 128 rows, and all rows are taken throughout
+-- (c) adding reported unit rows, within the bounds of `FromBounds`. Each addition raises the degree, which never passes n; the list never passes 128
+-- rows, and all rows are taken throughout
 -- k rows cost at most k·n
 orders-cost : {p : ℕ} → Prime p → (n : ℕ) (m : List ℕ) (vs : List (S p)) → AllBelow n vs → (os : List (WithDegree p)) → Orders (times p n m) vs os
     → sum (degs os) ≤ length vs * n
@@ -196,94 +193,88 @@ record GrownSo (p n : ℕ) (m cs : List ℕ) (a : ℕ) (r : Outcome) (k : ℕ) (
   poly : Poly p
   stand : IsStand p n m ds a s poly
 
-module _ (p n : ℕ) (m : List ℕ) (A : Sound p n m) (a : ℕ) (le : 8192 ≤ a) where
+module _ {p n : ℕ} {m : List ℕ} {a : ℕ} (A : Sound p n m) {ds : List ℕ} {s : Outcome} {f : Poly p} (S : IsStand p n m ds a s f) where
   -- 128 rows are paid for
-  rows-paid : (ds : List ℕ) → length ds / n ≤ 128 → (s : Outcome) (f : Poly p) → IsStand p n m ds a s f → s .taken ≡ length (rows p n ds)
-  rows-paid ds h s f S =
+  rows-paid : fullAllowance ≤ a → length ds / n ≤ mostCandidates → s .taken ≡ length (rows p n ds)
+  rows-paid le h =
       let c = orders-cost (A .prime) n m (rows p n ds) (rows-below p n ds) (S .orders) (S .each) in
       let b = mul-le-mul (le-trans (le-of-eq (rows-count p n ds)) h) (A .size) in
       all-paid S (omega arith)
 
   -- short: the degree is not n yet
-  short-below : (ds : List ℕ) (s : Outcome) (f : Poly p) → IsStand p n m ds a s f → s .standing ≡ short → s .degree < n
-  short-below ds s f S q =
+  short-below : s .standing ≡ short → s .degree < n
+  short-below q =
       let (g, M, K) = annihilator (A .prime) (times p n m) n (times-machine p n m) in
-      let w = short-witness n m ds a s f S q in
-      divides-grows (A .prime) _ _ f g (S .common .monic) M (polynomial-divides n m ds a s f S g K)
+      let w = short-witness S q in
+      divides-grows (A .prime) _ _ f g (S .common .monic) M (polynomial-divides S g K)
       (λ c. w .unsent (act-coef _ f g c _ ∙ K _ (e-below n (s .witness) (w .from) (w .to))))
 
   -- the reported unit row raises the degree
-  added-grows : (ds : List ℕ) (k : ℕ) → length ds ≡ k * n → (s t : Outcome) (f g : Poly p) → IsStand p n m ds a s f → s .standing ≡ short
-      → IsStand p n m (added p n ds s) a t g → t .taken ≡ length (rows p n (added p n ds s)) → s .degree < t .degree
+  added-grows : {t : Outcome} {g : Poly p} → length ds ≡ length ds / n * n → s .standing ≡ short → IsStand p n m (added p n ds s) a t g
+      → t .taken ≡ length (rows p n (added p n ds s)) → s .degree < t .degree
   unfolding added
-  added-grows ds k whole s t f g S q T all =
+  added-grows {g = g} whole q T all =
       let X = times p n m in
-      let w = short-witness n m ds a s f S q in
+      let w = short-witness S q in
       let u = bytes {p = p} n (e (s .witness)) in
       let one = rows-one p n (A .some-size) u (bytes-length n _) ∙ ap (λ v. v ∷ []) (row-bytes n _ (e-below n (s .witness) (w .from) (w .to))) in
-      let l = rows-append p n (A .some-size) k ds u whole ∙ ap (λ vs. rows p n ds ++ vs) one in
+      let l = rows-append p n (A .some-size) (length ds / n) ds u whole ∙ ap (λ vs. rows p n ds ++ vs) one in
       let K = kills-last X (rows p n ds) (e (s .witness)) g (subst (λ vs. KillsAll X vs g) l (least-all T all .member)) in
-      divides-grows (A .prime) _ _ f g (S .common .monic) (T .common .monic)
-      (more-divides (A .prime) n (A .some-size) m ds u k whole a a (le-refl a) s t f g S T) (λ c. w .unsent (act-coef X f g c _ ∙ K))
-
-  module _ (cs : List ℕ) (B : SoundRows p n cs) (h : length cs / n ≤ 64) (r : Outcome) where
-    grown-more : (k : ℕ) (ds : List ℕ) (s t : Outcome) (g : Poly p) → GrownSo p n m cs a r k ds s → s .standing ≡ short → IsStand p n m (added p n ds s) a t g
-        → GrownSo p n m cs a r (suc k) (added p n ds s) t
-    unfolding added
-    grown-more k ds s t g G q T =
-        let c = length cs / n in
-        let u = bytes {p = p} n (e (s .witness)) in
-        let b = short-below ds s (G .poly) (G .stand) q in
-        let whole : length (added p n ds s) ≡ (c + suc k) * n = length-append ds u ∙ ap₂ _+_ (G .whole) (bytes-length n _) ∙ omega arith in
-        let few : length (added p n ds s) / n ≤ 128 = rw (div-eq-of-eq-mul-left (A .some-size) whole) (omega (arith, G .risen, A .size)) in
-        let up = added-grows ds (c + k) (G .whole) s t (G .poly) g (G .stand) q T (rows-paid (added p n ds s) few t g T) in
-        record {
-          risen = omega (arith, G .risen);
-          whole = whole;
-          entries = small-append p ds u (G .entries) (bytes-small (omega (arith, A .prime .big)) n _);
-          poly = g;
-          stand = T;
-        }
-
-    run-grown : {s : Outcome} {k : ℕ} {ds : List ℕ} → Run p n m a cs r k ds s → GrownSo p n m cs a r k ds s
-    run-grown (start f S) = record { risen = omega arith; whole = rw add-zero (B .whole); entries = B .entries; poly = f; stand = S }
-    run-grown (more {k = k} {ds = ds} {s = s} {t = t} f R q S) = grown-more k ds s t f (run-grown R) q S
-
-    grown-added : (k : ℕ) (ds : List ℕ) (s : Outcome) → GrownSo p n m cs a r k ds s → AfterAdditions p n r k ds s
-    grown-added k ds s G =
-        let b = stand-degree (A .prime) n m ds a s (G .poly) (G .stand) in
-        let c = div-eq-of-eq-mul-left (A .some-size) (G .whole) in
-        let few : length ds / n ≤ 128 = rw c (omega (arith, G .risen, A .size)) in
-        record {
-          risen = G .risen;
-          bounded = b;
-          sound = record { whole = rw c (G .whole); few = few; entries = G .entries };
-          all-taken = rows-paid ds few s (G .poly) (G .stand);
-        }
+      divides-grows (A .prime) _ _ f g (S .common .monic) (T .common .monic) (more-divides u (A .prime) (A .some-size) whole (le-refl a) S T)
+      (λ c. w .unsent (act-coef X f g c _ ∙ K))
 
 -- while it is short, a run goes on
 pub run-next : {p n : ℕ} {m cs ds : List ℕ} {a k : ℕ} {r s : Outcome} → Prime p → Run p n m a cs r k ds s → s .standing ≡ short
     → Run p n m a cs r (suc k) (added p n ds s) (standOf p n m (added p n ds s) a)
 run-next {n} {m} {a} P R q = more _ R q (stand-found P n m _ a)
 
-pub additions-bounded : (p n : ℕ) (m cs : List ℕ) → Sound p n m → SoundRows p n cs → length cs / n ≤ 64 → (a : ℕ) → 8192 ≤ a → (r s : Outcome) (k : ℕ)
-    (ds : List ℕ) → Run p n m a cs r k ds s → AfterAdditions p n r k ds s
-additions-bounded p n m cs A B h a le r s k ds R = grown-added p n m A a le cs B h r k ds s (run-grown p n m A a le cs B h r R)
+module _ {p n : ℕ} {m cs : List ℕ} {a : ℕ} {r : Outcome} (A : Sound p n m) (B : SoundRows p n cs) (F : FromBounds n cs a) where
+  grown-more : {k : ℕ} {ds : List ℕ} {s t : Outcome} {g : Poly p} → GrownSo p n m cs a r k ds s → s .standing ≡ short
+      → IsStand p n m (added p n ds s) a t g → GrownSo p n m cs a r (suc k) (added p n ds s) t
+  unfolding added
+  grown-more {k} {ds} {s} {t} {g} G q T =
+      let c = length cs / n in
+      let u = bytes {p = p} n (e (s .witness)) in
+      let b = short-below A (G .stand) q in
+      let whole : length (added p n ds s) ≡ (c + suc k) * n = length-append ds u ∙ ap₂ _+_ (G .whole) (bytes-length n _) ∙ omega arith in
+      let few : length (added p n ds s) / n ≤ mostCandidates = rw (div-eq-of-eq-mul-left (A .some-size) whole) (omega (arith, G .risen, A .size, F .few)) in
+      let before : length ds ≡ length ds / n * n = rw (div-eq-of-eq-mul-left (A .some-size) (G .whole)) (G .whole) in
+      let up = added-grows A (G .stand) before q T (rows-paid A T (F .paid) few) in
+      record {
+        risen = omega (arith, G .risen);
+        whole = whole;
+        entries = small-append p ds u (G .entries) (bytes-small (omega (arith, A .prime .big)) n _);
+        poly = g;
+        stand = T;
+      }
 
--- so proved is reached after at most n − d additions, d the first degree
-pub additions-end : (p n : ℕ) (m cs : List ℕ) → Sound p n m → SoundRows p n cs → length cs / n ≤ 64 → (a : ℕ) → 8192 ≤ a → (r : Outcome) (f : Poly p)
-    → IsStand p n m cs a r f → RunProved p n m a cs r
-additions-end p n m cs A B h a le r f S = go n zero cs r (start f S) (omega arith)
-  where
-    bound : (s : Outcome) (k : ℕ) (ds : List ℕ) → Run p n m a cs r k ds s → AfterAdditions p n r k ds s
-    bound = additions-bounded p n m cs A B h a le r
+  run-grown : {k : ℕ} {ds : List ℕ} {s : Outcome} → Run p n m a cs r k ds s → GrownSo p n m cs a r k ds s
+  run-grown (start f S) = record { risen = omega arith; whole = rw add-zero (B .whole); entries = B .entries; poly = f; stand = S }
+  run-grown (more f R q S) = grown-more (run-grown R) q S
 
-    ended : (s : Outcome) (k : ℕ) (ds : List ℕ) → Run p n m a cs r k ds s → (t : Standing) → s .standing ≡ t → (t ≡ short → RunProved p n m a cs r)
-        → RunProved p n m a cs r
-    ended s k ds R proved q go = record { additions = k; list = ds; last = s; run = R; reached = q; few = omega (arith, bound s k ds R) }
-    ended s k ds R short q go = go refl
+  pub additions-bounded : {k : ℕ} {ds : List ℕ} {s : Outcome} → Run p n m a cs r k ds s → AfterAdditions p n r k ds s
+  additions-bounded {k} {ds} {s} R =
+      let G = run-grown R in
+      let c = div-eq-of-eq-mul-left (A .some-size) (G .whole) in
+      let b = stand-degree (A .prime) n m ds a s (G .poly) (G .stand) in
+      let few : length ds / n ≤ mostCandidates = rw c (omega (arith, G .risen, A .size, F .few)) in
+      record {
+        risen = G .risen;
+        bounded = b;
+        sound = record { whole = rw c (G .whole); few = few; entries = G .entries };
+        all-taken = rows-paid A (G .stand) (F .paid) few;
+      }
 
-    -- j bounds the additions to come
-    go : (j k : ℕ) (ds : List ℕ) (s : Outcome) → Run p n m a cs r k ds s → n ≤ r .degree + k + j → RunProved p n m a cs r
-    go zero k ds s R l = ended s k ds R (s .standing) refl (λ q. absurd (omega (arith, bound _ _ _ (run-next (A .prime) R q))))
-    go (suc j) k ds s R l = ended s k ds R (s .standing) refl (λ q. go j (suc k) (added p n ds s) _ (run-next (A .prime) R q) (omega arith))
+  -- so proved is reached after at most n − d additions, d the first degree
+  pub additions-end : {f : Poly p} → IsStand p n m cs a r f → RunProved p n m a cs r
+  additions-end {f} S = go n (start f S) (omega arith)
+    where
+      ended : {k : ℕ} {ds : List ℕ} {s : Outcome} → Run p n m a cs r k ds s → (t : Standing) → s .standing ≡ t → (t ≡ short → RunProved p n m a cs r)
+          → RunProved p n m a cs r
+      ended {k} {ds} {s} R proved q go = record { additions = k; list = ds; last = s; run = R; reached = q; few = omega (arith, additions-bounded R) }
+      ended R short q go = go refl
+
+      -- j bounds the additions to come
+      go : (j : ℕ) {k : ℕ} {ds : List ℕ} {s : Outcome} → Run p n m a cs r k ds s → n ≤ r .degree + k + j → RunProved p n m a cs r
+      go zero {s = s} R l = ended R (s .standing) refl (λ q. absurd (omega (arith, additions-bounded (run-next (A .prime) R q))))
+      go (suc j) {s = s} R l = ended R (s .standing) refl (λ q. go j (run-next (A .prime) R q) (omega arith))

@@ -183,7 +183,7 @@ minimal-in : {p n : ℕ} {m cs : List ℕ} {a : ℕ} {xs : List Line} → SheetL
 minimal-in {p} {n} {m} {cs} {a} L l h =
     let r = L .outcome in
     let (standing, listed) = minpoly-proved n (times p n m) (r .standing) r (L .poly) (L .stages) (L .period) l (subst (λ ys. Has ys "MINPOLY" l) (L .lines) h) in
-    record { degree = r .degree; poly = L .poly; minimal = proved-minimal n m cs a r (L .poly) (L .stand) standing; listed = listed }
+    record { degree = r .degree; poly = L .poly; minimal = proved-minimal (L .stand) standing; listed = listed }
 
 divisor-in : {p n : ℕ} {m cs : List ℕ} {a : ℕ} {xs : List Line} → Prime p → SheetLines p n m cs a xs → (l : List ℕ) → Has xs "DIVISOR" l → DivisorIn p n m xs l
 divisor-in {p} {n} {m} {cs} {a} P L l h =
@@ -192,7 +192,7 @@ divisor-in {p} {n} {m} {cs} {a} P L l h =
     let X = times p n m in
     let (standing, listed, image) = divisor-short n X (r .standing) r f (L .stages) (L .period) l (subst (λ ys. Has ys "DIVISOR" l) (L .lines) h) in
     let (d, g, M) = minimal-found P n m in
-    let w = short-witness n m cs a r f (L .stand) standing in
+    let w = short-witness (L .stand) standing in
     record {
       degree = r .degree;
       poly = f;
@@ -201,7 +201,7 @@ divisor-in {p} {n} {m} {cs} {a} P L l h =
       whole-degree = d;
       whole = g;
       minimal = M;
-      divides = polynomial-divides n m cs a r f (L .stand) g (M .member);
+      divides = polynomial-divides (L .stand) g (M .member);
       other = λ q. w .unsent (act-coef X f g q (e (r .witness)) ∙ M .member (e (r .witness)) (e-below n (r .witness) (w .from) (w .to)));
       witness = r .witness;
       first = w;

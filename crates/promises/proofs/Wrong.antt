@@ -65,20 +65,20 @@ corrected-permitted (period-reply p n m x) = period-exists p n m .1
 
 corrected-only : (r : Reply) → Permitted r → r ≡ corrected r
 unfolding corrected
-corrected-only (inverse-reply p a x) h = ap (inverse-reply p a) (inverse-unique p a x _ h (inverse-exists p a .1))
+corrected-only (inverse-reply p a x) h = ap (inverse-reply p a) (inverse-unique h (inverse-exists p a .1))
 corrected-only (order-reply p n m v out x) h =
-    let u = order-unique p n m v out (x .0) _ (x .1) _ h (order-exists p n m v out .2) in
+    let u = order-unique h (order-exists p n m v out .2) in
     ap₂ (λ y b. order-reply p n m v out (y, b)) (u .0) (u .1)
 corrected-only (image-reply p n m v f out x) h =
-    let u = image-unique p n m v f out (x .0) _ (x .1) _ h (image-exists p n m v f out .2) in
+    let u = image-unique p n m v f h (image-exists p n m v f out .2) in
     ap₂ (λ y b. image-reply p n m v f out (y, b)) (u .0) (u .1)
 corrected-only (stand-reply p n m cs a poly image x) h =
-    let u = stand-unique p n m cs a (poly, image) (x .0) _ (x .1, x .2) _ h (stand-exists p n m cs a (poly, image) .2) in
+    let u = stand-unique h (stand-exists p n m cs a (poly, image) .2) in
     ap₂ (λ y b. stand-reply p n m cs a poly image (y, b .0, b .1)) (u .0) (u .1)
 corrected-only (chain-reply p n m cs product stages x) h =
-    let u = chain-unique p n m cs (product, stages) (x .0) _ (x .1, x .2) _ h (chain-exists p n m cs (product, stages) .2) in
+    let u = chain-unique h (chain-exists p n m cs (product, stages) .2) in
     ap₂ (λ y b. chain-reply p n m cs product stages (y, b .0, b .1)) (u .0) (u .1)
-corrected-only (period-reply p n m x) h = ap (period-reply p n m) (period-unique p n m x _ h (period-exists p n m .1))
+corrected-only (period-reply p n m x) h = ap (period-reply p n m) (period-unique p n m h (period-exists p n m .1))
 
 -- replies with other numbers are other replies; that the numbers tell all apart need not be known
 answerNumbers : {A : Type 0} → (A → List ℕ) → Answer A → List ℕ

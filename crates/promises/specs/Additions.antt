@@ -1,4 +1,5 @@
 -- The run of calls of demand 3's last sentence: call the stand; while it is short, append the reported unit row and call again.
+--   FromBounds n cs a         the first list cs and the allowance a, within the bounds of that sentence: at most 64 rows, and 8,192 or more
 --   added p n ds s            the list ds with the unit row that s reports behind it
 --   Run p n m a cs r k ds s   from the list cs, answered by r, k additions lead to the list ds, answered by s
 --   AfterAdditions p n r k ds s        what is promised of each such list and answer
@@ -6,12 +7,17 @@
 -- Assumes nothing.
 use mathlib.Core.Path.{_≡_}
 use mathlib.Core.List.{List, _++_}
-use Prim.Native.Nat.{ℕ, zero, suc, _+_, _-_, _≤_}
+use Prim.Native.Nat.{ℕ, zero, suc, _+_, _-_, _/_, _≤_}
 use lib.ListN.{length}
 use Rattle.algebra.specs.Poly.{Poly}
 use Rattle.meaning.specs.Bytes.{rows, e, bytes}
-use Rattle.meaning.specs.Bounds.{SoundRows}
+use Rattle.meaning.specs.Bounds.{widest, mostCandidates, fullAllowance, SoundRows}
 use Rattle.meaning.specs.Stand.{proved, short, Outcome, IsStand}
+
+-- there is room for a unit row at each place behind the first list, and the allowance pays for every list
+pub record FromBounds (n : ℕ) (cs : List ℕ) (a : ℕ) : Type 0 where
+  pub few : length cs / n ≤ mostCandidates - widest
+  pub paid : fullAllowance ≤ a
 
 unfoldable pub added : (p n : ℕ) → List ℕ → Outcome → List ℕ
 added p n ds s = ds ++ bytes {p = p} n (e (s .witness))
