@@ -1,4 +1,3 @@
-pub mod Lead
 pub mod Sums
 pub mod Clearing
 pub mod Relating

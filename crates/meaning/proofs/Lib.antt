@@ -9,3 +9,5 @@ pub mod Print
 pub mod Sheet
 pub mod SheetRoom
 pub mod Case
+pub mod Entries
+pub mod Fronts

@@ -1,4 +1,3 @@
-pub mod Part
 pub mod Laid
 pub mod Kept
 pub mod SameSlots
