@@ -13,12 +13,11 @@ use Rattle.meaning.specs.Bytes.{write}
 use Rattle.meaning.specs.Calls.{Answer}
 use Rattle.meaning.specs.Case.{longestCase}
 use Rattle.meaning.specs.Sheet.{IsSheet, SheetCall}
+use Rattle.meaning.proofs.CaseBytes.{case-longest, case-unique}
 use Rattle.meaning.proofs.Front.{sheet-front}
+use Rattle.meaning.proofs.Place.{place-unique}
 use Rattle.meaning.proofs.Called.{called-exists, called-unique}
 use Rattle.promises.proofs.Sheet.{sheet-found, sheet-only}
-use Rattle.scan.proofs.Place.{place-unique}
-use Rattle.scan.proofs.Unique.{case-unique}
-use Rattle.scan.proofs.Case.{case-longest}
 use Rattle.scan.proofs.Decide.{case-or-place}
 
 pub sheet-unique : (s t u : List ℕ) → IsSheet s t → IsSheet s u → t ≡ u

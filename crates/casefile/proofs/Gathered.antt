@@ -14,8 +14,8 @@ use native.Mathlib.Omega.{arith}
 use lib.ListN.{length, length-append}
 use Rattle.meaning.specs.Case.{Record, Case, allowRecord, records, RowsOf, WellFormed}
 use Rattle.meaning.specs.Case.Record.{field, allow, row, candidate, end}
-use Rattle.meaning.proofs.Case.{flatten-length}
-use Rattle.meaning.specs.Bounds.{mostCandidates, widest}
+use Rattle.meaning.proofs.Case.{flatten-length, rowsOf-split}
+use Rattle.meaning.specs.Bounds.{widest}
 use Rattle.casefile.specs.Gathered.{noValues, noted, notedAll, gathered, Behind, RoomFor}
 
 pub notedAll-append : (g : Case) (xs ys : List Record) → notedAll g (xs ++ ys) ≡ notedAll (notedAll g xs) ys
@@ -82,24 +82,16 @@ notedAll-listed g (row l ∷ xs) = notedAll-listed (noted g (row l)) xs
 notedAll-listed g (candidate l ∷ xs) = let i = notedAll-listed (noted g (candidate l)) xs in (l ∷ i .0, i .1 ∙ append-assoc (g .candidates) (l ∷ []) (i .0))
 notedAll-listed g (end ∷ xs) = notedAll-listed g xs
 
--- rows of n entries
-rows-front : (p n : ℕ) (xs ys : List (List ℕ)) → RowsOf p n (xs ++ ys) → RowsOf p n xs
-rows-front p n [] ys r = tt
-rows-front p n (x ∷ xs) ys r = (r .0, rows-front p n xs ys (r .1))
-
-rows-last : (p n : ℕ) (xs : List (List ℕ)) (l : List ℕ) → RowsOf p n (xs ++ (l ∷ [])) → length l ≡ n
-rows-last p n [] l r = r .0 .0
-rows-last p n (x ∷ xs) l r = rows-last p n xs l (r .1)
-
-rows-behind : (p n most : ℕ) (whole xs ys : List (List ℕ)) (l : List ℕ) → RowsOf p n whole → whole ≡ (xs ++ (l ∷ [])) ++ ys → length whole ≤ most → n ≤ widest
-    → Behind (length xs) most (most * widest) (flatten xs) l
-rows-behind p n most whole xs ys l r e few small =
-    let these : RowsOf p n (xs ++ (l ∷ [])) = rows-front p n (xs ++ (l ∷ [])) ys (subst (RowsOf p n) e r) in
-    let size = flatten-length p n xs (rows-front p n xs (l ∷ []) these) in
-    let long : length l ≡ n = rows-last p n xs l these in
+-- a row l of a case, behind the rows xs
+rows-behind : {c : Case} {most : ℕ} {whole : List (List ℕ)} {l : List ℕ} (xs : List (List ℕ)) → WellFormed c → RowsOf (c .p) (c .n) whole
+    → (ys : List (List ℕ)) × (whole ≡ (xs ++ (l ∷ [])) ++ ys) → length whole ≤ most → Behind (length xs) most (most * widest) (flatten xs) l
+rows-behind {c} {most} {l = l} xs w r (ys, e) few =
+    let these = rowsOf-split (c .p) (c .n) xs (l ∷ []) (rowsOf-split (c .p) (c .n) (xs ++ (l ∷ [])) ys (subst (RowsOf (c .p) (c .n)) e r) .0) in
+    let size = flatten-length (c .p) (c .n) xs (these .0) in
+    let long : length l ≡ c .n = these .1 .0 .0 in
     let fewer : length xs < most = omega (arith, ap length e, length-append (xs ++ (l ∷ [])) ys, length-append xs (l ∷ [])) in
-    let most-bytes : suc (length xs) * n ≤ most * widest = mul-le-mul fewer small in
-    record { fewer = fewer; place = size ∙ ap (λ k. length xs * k) (sym long); fits = omega (arith, suc-mul (length xs) n) }
+    let most-bytes : suc (length xs) * c .n ≤ most * widest = mul-le-mul fewer (w .most) in
+    record { fewer = fewer; place = size ∙ ap (λ k. length xs * k) (sym long); fits = omega (arith, suc-mul (length xs) (c .n)) }
 
 pub record Starts (xs : List Record) (x : Record) : Type 0 where
   pub case : Case
@@ -118,10 +110,10 @@ starts-room xs (row l) f =
     let w = f .well-formed in
     let g : Case = gathered xs in
     let i = notedAll-matrix (noted g (row l)) (f .to-come) in
-    rows-behind (f .case .p) (f .case .n) widest (f .case .matrix) (g .matrix) (i .0) l (w .rows) (ap (λ (c : Case). c .matrix) (starts-noted f) ∙ i .1) (omega (arith, w .square, w .most)) (w .most)
+    rows-behind (g .matrix) w (w .rows) (i .0, ap (λ (c : Case). c .matrix) (starts-noted f) ∙ i .1) (omega (arith, w .square, w .most))
 starts-room xs (candidate l) f =
     let w = f .well-formed in
     let g : Case = gathered xs in
     let i = notedAll-listed (noted g (candidate l)) (f .to-come) in
-    rows-behind (f .case .p) (f .case .n) mostCandidates (f .case .candidates) (g .candidates) (i .0) l (w .listed) (ap (λ (c : Case). c .candidates) (starts-noted f) ∙ i .1) (w .few) (w .most)
+    rows-behind (g .candidates) w (w .listed) (i .0, ap (λ (c : Case). c .candidates) (starts-noted f) ∙ i .1) (w .few)
 starts-room xs end f = tt

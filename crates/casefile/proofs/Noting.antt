@@ -9,19 +9,18 @@
 use mathlib.Core.Path.{_≡_, refl, sym, ap, ap₂, subst, _∙_}
 use mathlib.Core.List.{List, [], _∷_, _++_, flatten, append-assoc, append-nil}
 use mathlib.Core.Option.{some}
-use Prim.Native.Nat.{ℕ, zero, suc, _+_, _*_, _-_, _<_, _≤_}
+use Prim.Native.Nat.{ℕ, _+_, _*_, _<_, _≤_}
 use native.Mathlib.Nat.{le-antisymm}
-use native.Mathlib.Numerals.{add-one}
 use native.Mathlib.Omega.{arith}
-use lib.ListN.{length, getD, take, drop, set, length-append, length-set}
-use lib.Seq.{paste, paste-zero, paste-suc, take-length}
+use lib.ListN.{length, getD, set, length-append, length-set}
+use lib.Seq.{paste, paste-zero}
 use types.Run.{OneOf, miss}
 use denote.Enum.Declared.{tagOf}
 use Rattle.meaning.specs.Bytes.{padded}
 use Rattle.meaning.specs.Bounds.{mostCandidates, widest}
 use Rattle.meaning.specs.Case.{Record, matrixBytes, candidateBytes, radix}
 use Rattle.meaning.specs.Case.Record.{row, candidate, end}
-use Rattle.meaning.proofs.Bytes.{padded-turn}
+use Rattle.meaning.proofs.Written.{padded-paste, paste-more}
 use Rattle.reader.specs.declared.Step.{Step}
 use Rattle.reader.specs.declared.Step.the-variants as step
 use Rattle.reader.specs.declared.Stepped.{Stepped}
@@ -42,18 +41,12 @@ pub copied-turn : {s d new : List ℕ} {at i : ℕ} → Copied s d new at i → 
     → Copied s d (set new (at + i) (getD s i 0)) at (i + 1)
 copied-turn {s} {d} {new} {at} {i} C h l =
     record {
-      is = ap (λ x. set x (at + i) (getD s i 0)) (C .is) ∙ paste-suc d at s i 0 (omega arith) l ∙ ap (paste d at s) (sym (add-one i));
+      is = paste-more d at s i (omega arith) l (C .is);
       size = length-set new (at + i) _ ∙ C .size;
     }
 
 pub copied-end : {s d new : List ℕ} {at i : ℕ} → Copied s d new at i → i ≤ length s → length s ≤ i → new ≡ paste d at s (length s)
 copied-end {s} {d} {new} {at} C h k = C .is ∙ ap (paste d at s) (le-antisymm h k)
-
--- bytes put behind others, where there were zeros
-padded-paste : (k : ℕ) (a l : List ℕ) → length a + length l ≤ k → paste (padded k a) (length a) l (length l) ≡ padded k (a ++ l)
-padded-paste k a l h =
-    let rest : List ℕ = drop (length a + length l) (padded k a) in
-    ap (λ t. (take (length a) (padded k a) ++ t) ++ rest) (take-length l) ∙ append-assoc (take (length a) (padded k a)) l rest ∙ padded-turn k a l h
 
 flatten-more : (ls : List (List ℕ)) (l : List ℕ) → flatten (ls ++ (l ∷ [])) ≡ flatten ls ++ l
 unfolding flatten

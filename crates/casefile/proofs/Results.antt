@@ -1,6 +1,7 @@
 -- What is known of the contents that reading permits.
 --   read-within   of a case that is read, n is at most 64 and there are at most 128 candidates
 --   read-sizes    so its matrix and its candidates fill no more than their arrays
+--   read-refused  of a file that is refused, that it is no case, and the place
 --   read-steps    what is read is what the steps hand out
 --   read-unique   any two contents that `ReadIs` permits agree, arrays included
 -- Assumes nothing.
@@ -12,7 +13,9 @@ use native.Mathlib.Nat.{mul-le-mul}
 use lib.ListN.{length}
 use Rattle.meaning.specs.Bytes.{padded}
 use Rattle.meaning.specs.Bounds.{mostCandidates, widest}
-use Rattle.meaning.specs.Case.{Case, allowanceOf, matrixBytes, candidateBytes}
+use Rattle.meaning.specs.Case.{Case, IsCase, Place, allowanceOf, matrixBytes, candidateBytes}
+use Rattle.meaning.proofs.CaseBytes.{case-unique}
+use Rattle.meaning.proofs.Place.{place-unique}
 use Rattle.casefile.specs.declared.Reading.{Reading}
 use Rattle.casefile.specs.declared.Reading.the-variants as answer
 use Rattle.casefile.specs.declared.Contents.{Contents}
@@ -20,8 +23,6 @@ use Rattle.casefile.specs.Reading.{matrixRoom, candidateRoom, valuesOf, 
 use Rattle.casefile.specs.Reading.ReadIs.{reads, refuses}
 use Rattle.casefile.specs.Reading.HandedOut.{whole, stopped}
 use Rattle.reader.proofs.Steps.{steps-case, steps-refused}
-use Rattle.scan.proofs.Place.{place-unique}
-use Rattle.scan.proofs.Unique.{case-unique}
 
 pub read-within : {s : List ℕ} {r : Contents} {p n a k : ℕ} → ReadIs s r → r .answer ≡ answer.Case p n a k → (n ≤ widest) × (k ≤ mostCandidates)
 read-within (reads c W v x y) e =
@@ -31,6 +32,12 @@ read-within (refuses j W P v x y) e = absurd (Option·none-ne-some _ (sym (ap re
 
 pub read-sizes : {s : List ℕ} {r : Contents} {p n a k : ℕ} → ReadIs s r → r .answer ≡ answer.Case p n a k → (n * n ≤ matrixRoom) × (k * n ≤ candidateRoom)
 read-sizes R e = let w = read-within R e in (mul-le-mul (w .0) (w .0), mul-le-mul (w .1) (w .0))
+
+pub read-refused : {s : List ℕ} {r : Contents} {k : ℕ} → ReadIs s r → r .answer ≡ answer.Refused k → ((c : Case) → ¬ IsCase s c) × Place s k
+read-refused (reads c i v f g) q = absurd (Option·none-ne-some _ (sym (ap valuesOf q) ∙ v))
+read-refused {s} {r} {k} (refuses j none-is at v f g) q =
+    let e = Option·some-injective (8, k) (8, j) (sym (ap readRefusal q) ∙ v) in
+    (none-is, subst (Place s) (sym (ap (λ x. x .1) e)) at)
 
 pub read-steps : {s : List ℕ} {r : Contents} → ReadIs s r → HandedOut s r
 read-steps (reads c i v x y) = whole c (steps-case i) v x y

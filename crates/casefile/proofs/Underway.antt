@@ -9,15 +9,15 @@
 -- Assumes nothing.
 use mathlib.Core.Path.{_≡_, refl, sym, ap, subst, _∙_}
 use mathlib.Core.List.{List, [], _∷_, _++_, flatten}
-use mathlib.Core.Option.{Option, some}
+use mathlib.Core.Option.{Option, some, Option·none-ne-some}
 use Prim.Native.Nat.{ℕ, _+_, _-_, _<_}
-use native.Mathlib.Nat.{sub-zero}
 use native.Mathlib.Omega.{arith}
 use lib.ListN.{length, replicate, length-replicate}
 use types.Run.{OneOf, miss}
 use denote.Enum.Declared.{tagOf}
-use Rattle.meaning.specs.Bytes.{padded}
 use Rattle.meaning.specs.Case.{Record, recordBytes, Case, defaultAllowance}
+use Rattle.meaning.proofs.Flat.{record-long}
+use Rattle.meaning.proofs.Written.{zeros-padded}
 use Rattle.reader.specs.declared.Step.{Step}
 use Rattle.reader.specs.declared.Step.the-variants as step
 use Rattle.reader.specs.declared.Stepped.{Stepped}
@@ -30,9 +30,10 @@ use Rattle.casefile.specs.Gathered.{gathered, notedAll, Stored, Noting, 
 use Rattle.casefile.specs.Reading.{matrixRoom, candidateRoom, ReadIs}
 use Rattle.casefile.specs.Reading.ReadIs.{reads, refuses as no-case}
 use Rattle.reader.proofs.Step.{the-type}
-use Rattle.reader.proofs.Stepping.{record-long, next-within, none-some, step-refused}
+use Rattle.reader.proofs.Stepping.{next-within, step-refused}
+use Rattle.reader.proofs.Steps.{handed-stuck}
 use Rattle.casefile.proofs.Gathered.{gathered-more, starts-room}
-use Rattle.casefile.proofs.Handed.{handed-starts, handed-all, handed-stuck}
+use Rattle.casefile.proofs.Handed.{handed-starts, handed-all}
 
 pub record Underway (s m cs : List ℕ) (v : Numbers) (at : ℕ) : Type 0 where
   pub records : List Record
@@ -40,10 +41,6 @@ pub record Underway (s m cs : List ℕ) (v : Numbers) (at : ℕ) : Type 0 where
   pub holds : Stored (gathered records) v m cs
   pub matrix-size : length m ≡ matrixRoom
   pub candidate-size : length cs ≡ candidateRoom
-
-zeros-padded : (k : ℕ) → replicate k 0 ≡ padded k []
-unfolding padded
-zeros-padded k = ap (λ j. replicate j 0) (sym (sub-zero k))
 
 pub underway-start : (s : List ℕ) {at : ℕ} → at ≡ 0
     → Underway s (replicate matrixRoom 0) (replicate candidateRoom 0) (record { p = 0; n = 0; allowance = defaultAllowance; rows = 0; count = 0 }) at
@@ -111,7 +108,7 @@ module _ {s m cs : List ℕ} {v : Numbers} {at : ℕ} {r : Stepped} (P : Underwa
 -- how reading ends
 pub underway-over : {s m cs : List ℕ} {v : Numbers} {at : ℕ} {r : Stepped} → Underway s m cs v at → StepIs s at r → r .step ≡ step.Over
     → ReadIs s (record { answer = answer.Case (v .p) (v .n) (v .allowance) (v .count); matrix = m; candidates = cs })
-underway-over {s} {r = r} P (hands x N f g k) e = absurd (none-some (ap (recordWith (entriesIn s r)) (sym e) ∙ f))
+underway-over {s} {r = r} P (hands x N f g k) e = absurd (Option·none-ne-some _ (ap (recordWith (entriesIn s r)) (sym e) ∙ f))
 underway-over {s} {m} {cs} {v} P (over E f g k) e =
     let H : Stored (E .case) v m cs = subst (λ c. Stored c v m cs) (handed-all (P .handed) E) (P .holds) in
     reads (E .case) (E .is) (four (H .modulus) (H .order) (H .allowance) (H .count)) (H .matrix) (H .candidates)
@@ -119,11 +116,11 @@ underway-over {s} {m} {cs} {v} P (over E f g k) e =
     four : {p n a k q o b l : ℕ} → p ≡ q → n ≡ o → a ≡ b → k ≡ l
         → _≡_ {A = Option (ℕ × ℕ × ℕ × ℕ)} (some (p, n, a, k)) (some (q, o, b, l))
     four e f g h = λ i. some (e i, f i, g i, h i)
-underway-over P (refuses k N E Q f g h) e = absurd (none-some (ap refusalOf (sym e) ∙ f))
+underway-over P (refuses k N E Q f g h) e = absurd (Option·none-ne-some _ (ap refusalOf (sym e) ∙ f))
 
 pub underway-refused : {s m cs : List ℕ} {v : Numbers} {at k : ℕ} {r : Stepped} → Underway s m cs v at → StepIs s at r → r .step ≡ step.Refused k
     → ReadIs s (record { answer = answer.Refused k; matrix = replicate matrixRoom 0; candidates = replicate candidateRoom 0 })
-underway-refused {s} {r = r} P (hands x N f g k) e = absurd (none-some (ap (recordWith (entriesIn s r)) (sym e) ∙ f))
-underway-refused P (over E f g k) e = absurd (none-some (ap refusalOf (sym f ∙ e)))
+underway-refused {s} {r = r} P (hands x N f g k) e = absurd (Option·none-ne-some _ (ap (recordWith (entriesIn s r)) (sym e) ∙ f))
+underway-refused P (over E f g k) e = absurd (Option·none-ne-some _ (ap refusalOf (sym f ∙ e)))
 underway-refused {k = j} P (refuses k N E Q f g h) e =
     no-case k (λ c i. handed-stuck (P .handed) N E i) Q (sym (ap refusalOf e) ∙ f) refl refl

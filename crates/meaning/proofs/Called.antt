@@ -1,5 +1,6 @@
 -- A call's answer is a refusal or a result, and says which (01: "A refusal returns its number alone, and no lent byte changes").
 --   refused-given     a refusal is no result
+--   refused-by, given-by   a call that is refused, and one that gives a result
 --   called-refused    a refusal is the number that the table gives, and nothing lent has changed
 --   called-given      a result is given where no number of the table applies
 --   called-exists     a call has an answer where it has a result whenever nothing is refused
@@ -13,6 +14,18 @@ use Rattle.meaning.specs.Calls.{Answer, refused, given, Called}
 
 pub refused-given : {A : Type 0} (k : ℕ) (r : A) → ¬ (refused k ≡ given r)
 refused-given k r e = let z : _≡_ {A = ℕ} 0 1 = cc in omega arith
+
+pub refused-by : {A B : Type 0} {q : Option ℕ} {R : A → B → Type 0} {old : B} {k : ℕ} → q ≡ some k → Called q R old (refused k) old
+refused-by {k} e = record {
+  refusal = λ j w. (cc, refl);
+  result = λ w. absurd (Option·none-ne-some k (sym w ∙ e));
+}
+
+pub given-by : {A B : Type 0} {q : Option ℕ} {R : A → B → Type 0} {old new : B} {r : A} → q ≡ none → R r new → Called q R old (given r) new
+given-by {r} e h = record {
+  refusal = λ j w. absurd (Option·none-ne-some j (sym e ∙ w));
+  result = λ w. (r, refl, h);
+}
 
 -- a refusal: the number that the table gives, and nothing lent has changed
 pub called-refused : {A B : Type 0} {R : A → B → Type 0} {q : Option ℕ} {old new : B} {k : ℕ} → Called q R old (refused k) new → (q ≡ some k) × (new ≡ old)

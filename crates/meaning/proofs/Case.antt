@@ -1,9 +1,10 @@
 -- A well-formed case is within the bounds, so no call refuses it.
 --   flatten-length, flatten-small   rows one after another: their length, and that their entries are below p
+--   rowsOf-split                    rows in front of rows, each part by itself
 --   case-sound, case-sound-rows     the matrix and the candidates of a well-formed case
 -- Assumes nothing.
 use mathlib.Core.Path.{_≡_, sym, ap, _∙_}
-use mathlib.Core.List.{List, [], _∷_, flatten}
+use mathlib.Core.List.{List, [], _∷_, _++_, flatten}
 use Prim.Native.Nat.{ℕ, _*_}
 use native.Mathlib.Nat.{zero-mul, suc-mul, div-eq-of-eq-mul-left}
 use native.Mathlib.Omega.{arith}
@@ -24,6 +25,10 @@ pub flatten-small : (p n : ℕ) (xs : List (List ℕ)) → RowsOf p n xs → Sma
 unfolding flatten
 flatten-small p n [] r = tt
 flatten-small p n (x ∷ xs) r = small-append p x (flatten xs) (r .0 .1) (flatten-small p n xs (r .1))
+
+pub rowsOf-split : (p n : ℕ) (xs ys : List (List ℕ)) → RowsOf p n (xs ++ ys) → RowsOf p n xs × RowsOf p n ys
+rowsOf-split p n [] ys r = (tt, r)
+rowsOf-split p n (x ∷ xs) ys r = let i = rowsOf-split p n xs ys (r .1) in ((r .0, i .0), i .1)
 
 pub case-sound : (c : Case) → WellFormed c → Sound (c .p) (c .n) (matrixBytes c)
 case-sound c w =

@@ -1,5 +1,10 @@
 pub mod Bytes
 pub mod Refusal
+pub mod Standing
+pub mod Written
+pub mod Flat
+pub mod CaseBytes
+pub mod Place
 pub mod Called
 pub mod Unique
 pub mod Degrees

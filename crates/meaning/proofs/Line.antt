@@ -5,18 +5,22 @@
 --   decimal-length, decimal-some  below 10 to the k there are at most k digits, and there is one at least
 --   each-append                   what holds of each byte of two lists holds of each of both
 --   decimal-digits                every byte is that of a digit
+--   spaced-append, spaced-next    lists of numbers joined, and what stands behind them
+--   spaced-left                   the next number of a list of which k are left
 --   text-append                   the bytes of lines and more lines
 -- Assumes nothing.
 use mathlib.Core.Path.{_≡_, refl, sym, ap, _∙_}
 use mathlib.Core.List.{List, [], _∷_, _++_, append-assoc}
 use mathlib.Core.Logic.{_⊎_, inl, inr}
-use Prim.Native.Nat.{ℕ, zero, suc, _/_, _%_, _^_, _<_, _≤_}
+use Prim.Native.Nat.{ℕ, zero, suc, _+_, _-_, _/_, _%_, _^_, _<_, _≤_}
 use native.Mathlib.Nat.{not-suc-le-zero, pow-suc}
+use native.Mathlib.Numerals.{add-one}
 use native.Mathlib.Decide.{decLt}
 use native.Mathlib.Omega.{arith}
-use lib.ListN.{length, length-append}
+use lib.ListN.{length, getD, drop, length-append}
+use lib.Seq.{drop-cons}
 use borrow.Author.Tests.{lt-ltb, le-ltb}
-use Rattle.meaning.specs.Line.{digit, digits, decimal, Line, lineBytes, text}
+use Rattle.meaning.specs.Line.{digit, digits, decimal, Line, spaced, lineBytes, text}
 use Rattle.meaning.specs.Print.{Each, IsDigit}
 
 one-or-more : (x : ℕ) → (x < 10) ⊎ (10 ≤ x)
@@ -79,6 +83,25 @@ digits-digits (suc k) x = elim (one-or-more x) [
 pub decimal-digits : (x : ℕ) → Each IsDigit (decimal x)
 unfolding decimal
 decimal-digits x = digits-digits (suc x) x
+
+pub spaced-append : (a b : List ℕ) → spaced (a ++ b) ≡ spaced a ++ spaced b
+unfolding spaced
+spaced-append [] b = refl
+spaced-append (x ∷ a) b = ap (λ l. 32 ∷ (decimal x ++ l)) (spaced-append a b) ∙ ap (λ l. 32 ∷ l) (sym (append-assoc (decimal x) (spaced a) (spaced b)))
+
+pub spaced-next : (a b s : List ℕ) → spaced (a ++ b) ++ s ≡ spaced a ++ (spaced b ++ s)
+spaced-next a b s = ap (λ l. l ++ s) (spaced-append a b) ∙ append-assoc (spaced a) (spaced b) s
+
+spaced-drop : (s : List ℕ) (i : ℕ) → i < length s → spaced (drop i s) ≡ spaced (getD s i 0 ∷ []) ++ spaced (drop (i + 1) s)
+spaced-drop s i h =
+    ap spaced (drop-cons s i 0 h) ∙ spaced-append (getD s i 0 ∷ []) (drop (suc i) s)
+    ∙ ap (λ j. spaced (getD s i 0 ∷ []) ++ spaced (drop j s)) (sym (add-one i))
+
+pub spaced-left : (s : List ℕ) (k : ℕ) → 0 < k → k ≤ length s
+    → spaced (drop (length s - k) s) ≡ spaced (getD s (length s - k) 0 ∷ []) ++ spaced (drop (length s - (k - 1)) s)
+spaced-left s k h j =
+    let next : length s - k + 1 ≡ length s - (k - 1) = omega arith in
+    spaced-drop s (length s - k) (omega arith) ∙ ap (λ i. spaced (getD s (length s - k) 0 ∷ []) ++ spaced (drop i s)) next
 
 pub text-append : (xs ys : List Line) → text (xs ++ ys) ≡ text xs ++ text ys
 unfolding text

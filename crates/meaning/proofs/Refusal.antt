@@ -1,11 +1,17 @@
 -- What the refusal table says where a call is not refused, and where it is.
 --   isPrime-prime, prime-isPrime   the prime test is right, both ways
+--   prime-positive   a prime is above 0
+--   prime-told       test 1, from what a prime test said
 --   noPrime-false, noSize-false, noMatrix-false, noRows-false, noVector-false, noPolynomial-false, badEntry-false, tooShort-false
 --                    where a test does not apply, what it looks at is good
 --   prime-noPrime, size-noSize, matrix-noMatrix, rows-noRows, vector-noVector, polynomial-noPolynomial, small-badEntry, long-tooShort
 --                    and where that is good, the test does not apply
+--   rows-over, rows-whole   whole rows leave no rest, and the other way round
 --   small-append     bytes below p behind bytes below p
+--   first-here, first-next, first-end   the first test of a list applies, or does not, or there is none
+--   first-front, first-past   a number due from the front of a list is due from the whole; where none is due, the rest decides
 --   first-none, none-first   no number is due exactly when the first test does not apply and none is due for the rest
+--   size-told        n is 1 to 64 where tests 1 and 2 do not apply
 --   inverse-sound, order-sound, image-sound, stand-sound, chain-sound, period-sound   what is known of an input that the call does not refuse
 --   sound-stand, sound-chain, sound-period   sound inputs with buffers that are long enough are not refused
 -- Assumes nothing.
@@ -13,7 +19,7 @@ use mathlib.Core.Path.{_≡_, refl, sym, ap, _∙_}
 use mathlib.Core.Logic.{⊎-elim}
 use mathlib.Core.Bool.{Bool, true, false, not, _&&_, _||_, true≢false, and-eq-true-iff}
 use mathlib.Core.List.{List, [], _∷_, _++_}
-use mathlib.Core.Option.{none, Option·none-ne-some}
+use mathlib.Core.Option.{none, some, Option·none-ne-some}
 use Prim.Native.Nat.{ℕ, zero, suc, _+_, _*_, _/_, _%_, _<_, _≤_}
 use native.Mathlib.Nat.{add-zero, le-refl, le-step, le-of-suc-le-suc, not-suc-le-zero, eq-or-lt-of-le, div-add-mod', mul-mod-left, div-eq-of-eq-mul-left}
 use native.Mathlib.Decide.{decLe}
@@ -76,6 +82,13 @@ prime-isPrime p P h = rw (le-leb 2 p (P .big), le-leb p largestPrime h) (true-al
           | no s ↦ rw (lt-leb a 1 (omega arith), ne-eqb (p % a) 0 (P .irr a (omega arith) l))
         ]
 
+pub prime-positive : (p : ℕ) → isPrime p ≡ true → 0 < p
+prime-positive p e = omega (arith, isPrime-prime p e .0 .big)
+
+pub prime-told : {b t : Bool} (p : ℕ) → b ≡ isPrime p → b ≡ t → noPrime p ≡ not t
+unfolding noPrime
+prime-told p e h = ap not (sym e ∙ h)
+
 -- each test of the table, both ways: it does not apply exactly when its input is good
 pub noPrime-false : (p : ℕ) → noPrime p ≡ false → Prime p × (p ≤ largestPrime)
 unfolding noPrime
@@ -101,11 +114,17 @@ pub matrix-noMatrix : (n : ℕ) (m : List ℕ) → length m ≡ n * n → noMatr
 unfolding noMatrix
 matrix-noMatrix n m q = ap not (eq-eqb (length m) (n * n) q)
 
+pub rows-whole : (n : ℕ) (cs : List ℕ) → length cs % n ≡ 0 → length cs ≡ length cs / n * n
+rows-whole n cs e = sym (div-add-mod' (length cs) n) ∙ ap (λ r. length cs / n * n + r) e ∙ add-zero _
+
 pub noRows-false : (n : ℕ) (cs : List ℕ) → 0 < n → noRows n cs ≡ false → (length cs ≡ length cs / n * n) × (length cs / n ≤ mostCandidates)
 unfolding noRows
 noRows-false n cs h q =
     let t = both-true _ _ q in
-    (sym (div-add-mod' (length cs) n) ∙ ap (λ r. length cs / n * n + r) (eqb-true _ 0 (t .0)) ∙ add-zero _, leb-true _ mostCandidates (t .1))
+    (rows-whole n cs (eqb-true _ 0 (t .0)), leb-true _ mostCandidates (t .1))
+
+pub rows-over : (n : ℕ) (cs : List ℕ) → 0 < n → noRows n cs ≡ false → length cs % n ≡ 0
+rows-over n cs h q = ap (λ l. l % n) (noRows-false n cs h q .0) ∙ mul-mod-left (length cs / n) n
 
 pub rows-noRows : (n : ℕ) (cs : List ℕ) → 0 < n → (k : ℕ) → length cs ≡ k * n → k ≤ mostCandidates → noRows n cs ≡ false
 unfolding noRows
@@ -153,6 +172,30 @@ unfolding tooShort
 long-tooShort k out h = le-ltb (length out) k h
 
 -- the first test that applies
+pub first-here : (k : ℕ) (b : Bool) (ts : List (ℕ × Bool)) → b ≡ true → first ((k, b) ∷ ts) ≡ some k
+unfolding first
+first-here k b ts e = rw e
+
+pub first-next : (k : ℕ) (b : Bool) (ts : List (ℕ × Bool)) → b ≡ false → first ((k, b) ∷ ts) ≡ first ts
+unfolding first
+first-next k b ts e = rw e
+
+pub first-end : first [] ≡ none
+unfolding first
+first-end = refl
+
+pub first-front : {k : ℕ} (ts us : List (ℕ × Bool)) → first ts ≡ some k → first (ts ++ us) ≡ some k
+unfolding first
+first-front {k} [] us e = absurd (Option·none-ne-some k e)
+first-front ((j, true) ∷ ts) us e = e
+first-front ((j, false) ∷ ts) us e = first-front ts us e
+
+pub first-past : (ts us : List (ℕ × Bool)) → first ts ≡ none → first (ts ++ us) ≡ first us
+unfolding first
+first-past [] us e = refl
+first-past ((j, true) ∷ ts) us e = absurd (Option·none-ne-some j (sym e))
+first-past ((j, false) ∷ ts) us e = first-past ts us e
+
 pub first-none : (k : ℕ) (b : Bool) (ts : List (ℕ × Bool)) → first ((k, b) ∷ ts) ≡ none → (b ≡ false) × (first ts ≡ none)
 unfolding first
 first-none k true ts q = absurd (Option·none-ne-some k (sym q))
@@ -168,6 +211,10 @@ first-clear : (ts : List (ℕ × Bool)) → first ts ≡ none → (i : ℕ) → 
 first-clear [] q i = refl
 first-clear (t ∷ ts) q zero = first-none (t .0) (t .1) ts q .0
 first-clear (t ∷ ts) q (suc i) = first-clear ts (first-none (t .0) (t .1) ts q .1) i
+
+-- n is in its bounds where test 2 does not apply
+pub size-told : (p n : ℕ) (ts : List (ℕ × Bool)) → first ((1, noPrime p) ∷ (2, noSize n) ∷ ts) ≡ none → (1 ≤ n) × (n ≤ widest)
+size-told p n ts q = noSize-false n (first-none _ _ _ (first-none _ _ _ q .1) .0)
 
 -- what is known of an input that is not refused
 sound : (p n : ℕ) (m : List ℕ) → noPrime p ≡ false → noSize n ≡ false → noMatrix n m ≡ false → badEntry p m ≡ false → Sound p n m

@@ -1,4 +1,7 @@
--- Every sheet fits a buffer of `sheetRoom` bytes.
+-- Every sheet fits a buffer of `sheetRoom` bytes, and a shorter one is refused.
+--   room-bytes        the code's room is that of a sheet
+--   room-six, room-none   when the call refuses
+--   given-size        the length that the call answers is that of bytes at the front of the buffer
 --   spaced-length     numbers below 1,000 take four bytes each at most
 --   line-length       the bytes of a line
 --   standLines-length, stageLines-length, periodLine-length   the lines of a stand, of its chain's stages, of a period, counted with all digits
@@ -13,6 +16,7 @@ use Prim.Native.String.{String}
 use native.Mathlib.Nat.{le-of-eq, le-trans}
 use native.Mathlib.Omega.{arith}
 use lib.ListN.{length, length-append}
+use borrow.Author.Tests.{lt-ltb}
 use Rattle.algebra.specs.Row.{S}
 use Rattle.algebra.specs.Poly.{Poly, coef, act}
 use Rattle.algebra.specs.Orders.{WithDegree, product, degrees}
@@ -22,11 +26,33 @@ use Rattle.meaning.specs.Bytes.{times, rows, e, bytes, Small}
 use Rattle.meaning.specs.Bounds.{largestPrime, mostCandidates, widest, Sound, SoundRows}
 use Rattle.meaning.specs.Stand.{Standing, proved, short, Outcome, Tested}
 use Rattle.meaning.specs.Period.{longest, IsPeriod}
+use Rattle.meaning.specs.Refusal.{first, tooShort}
+use Rattle.meaning.specs.Calls.{given}
 use Rattle.meaning.specs.Line.{decimal, Line, spaced, lineBytes, text}
-use Rattle.meaning.specs.Sheet.{fieldLine, standLines, stageLine, chainLine, periodLine, refusedLine, SheetLines, sheetRoom}
+use Rattle.meaning.specs.Sheet.{fieldLine, standLines, stageLine, chainLine, periodLine, refusedLine, SheetLines, sheetRoom, SheetCall}
 use Rattle.meaning.proofs.Bytes.{bytes-length, bytes-small, rows-count, times-linear}
 use Rattle.meaning.proofs.Degrees.{orders-count, stand-degree, chain-total}
 use Rattle.meaning.proofs.Line.{decimal-length, text-append}
+use Rattle.meaning.proofs.Refusal.{none-first, long-tooShort}
+use Rattle.meaning.proofs.Called.{called-given}
+use Rattle.meaning.proofs.Written.{write-covers}
+
+pub room-bytes : sheetRoom ≡ 2048
+unfolding sheetRoom
+room-bytes = refl
+
+pub room-six : (out : List ℕ) → length out < sheetRoom → first ((6, tooShort sheetRoom out) ∷ []) ≡ some 6
+unfolding first tooShort
+room-six out h = rw (lt-ltb (length out) sheetRoom h)
+
+pub room-none : (out : List ℕ) → sheetRoom ≤ length out → first ((6, tooShort sheetRoom out) ∷ []) ≡ none
+unfolding first
+room-none out h = none-first 6 _ [] (long-tooShort sheetRoom out h) refl
+
+pub given-size : {s old new : List ℕ} {k : ℕ} → SheetCall s old (given k) new → k ≤ length new
+given-size {old = old} h =
+    let r = called-given h .1 in
+    omega (arith, r .size, ap length (r .buffer), write-covers (r .printed) old)
 
 pub spaced-length : (p : ℕ) (l : List ℕ) → p ≤ 1000 → Small p l → length (spaced l) ≤ 4 * length l
 unfolding spaced

@@ -1,33 +1,32 @@
 -- What a step answers.
---   record-long      a record has at least two bytes
 --   StandsAt, next-standing   a next record, by the machine
---   head-fits        the first of records that lead on from a state may come there
---   next-within      the next record lies within the bytes
+--   next-within, next-passed   the next record lies within the bytes, behind those passed
 --   next-peeked      it is what the state and the bytes say
 --   next-same, next-ended   there is one next record, and none at the end
 --   step-hands, step-over, step-early, step-cut, step-stops, step-nothing   each answer of the code is one that `StepIs` permits
 --   step-refused     a step that says a number says where
---   some-same, none-some   what may be missing, and is not
 --   step-unique      any two answers that `StepIs` permits agree
 -- Assumes nothing.
 use mathlib.Core.Path.{_≡_, refl, sym, ap, ap₂, subst, _∙_}
-use mathlib.Core.List.{List, _∷_, _++_, append-cancel-left}
-use mathlib.Core.Option.{Option, none, some}
+use mathlib.Core.List.{List, _++_, append-cancel-left}
+use mathlib.Core.Option.{some, Option·none-ne-some, Option·some-injective}
 use Prim.Native.Nat.{ℕ, _+_, _-_, _<_, _≤_}
 use native.Mathlib.Omega.{arith}
-use lib.ListN.{length, take, drop, length-take, length-drop, length-append, take-append-drop}
+use lib.ListN.{length, take, drop, length-take, length-drop, length-append}
 use lib.Seq.{take-add, take-take, take-at, take-length, length-take-le}
-use Rattle.meaning.specs.Case.{Record, recordBytes, flat, Case, records, WellFormed, Begins, Place}
+use Rattle.meaning.specs.Case.{Record, recordBytes, flat, Begins, Place}
 use Rattle.meaning.specs.Case.Record.{field, allow, row, candidate, end}
+use Rattle.meaning.proofs.Flat.{record-long}
+use Rattle.meaning.proofs.Place.{place-past, place-unique}
 use Rattle.scan.specs.declared.Head.{Head}
 use Rattle.scan.specs.declared.State.{State}
 use Rattle.scan.specs.declared.State.the-variants.{Start, Over}
 use Rattle.scan.specs.Machine.{run, Viable, Scans}
 use Rattle.scan.proofs.Run.{viable-alive, run-append}
-use Rattle.scan.proofs.Records.{Fits, fits-viable, fits-whole, fits-comes, Takes, takes-append, takes-split, takes-run, takes-end, takes-viable, last, case-takes}
+use Rattle.scan.proofs.Records.{Fits, fits-viable, fits-whole, fits-comes, takes-append, takes-run, takes-end, takes-viable, last, case-fits}
 use Rattle.scan.proofs.Records.{takes-case, parse, whole-finish}
 use Rattle.scan.proofs.Records.Takes.{takes}
-use Rattle.scan.proofs.Place.{over-case, case-over, viable-begins, place-past, place-unique, place-end}
+use Rattle.scan.proofs.Place.{over-case, case-over, viable-begins, place-end}
 use Rattle.reader.specs.declared.Step.{Step}
 use Rattle.reader.specs.declared.Step.the-variants as step
 use Rattle.reader.specs.declared.Stepped.{Stepped}
@@ -36,15 +35,7 @@ use Rattle.reader.specs.declared.Ahead.the-variants as ahead
 use Rattle.reader.specs.Step.{recordWith, recordOf, refusalOf, NextRecord, Ended, StepIs, steppedTo}
 use Rattle.reader.specs.Step.StepIs.{hands, over, refuses}
 use Rattle.reader.specs.Look.{recordAt}
-use Rattle.reader.proofs.Look.{Peeked, fits-peek, FitsAs, alive-fits, peek-far}
-
-pub record-long : (x : Record) → 2 ≤ length (recordBytes x)
-unfolding recordBytes
-record-long (field p n) = omega arith
-record-long (allow high low) = omega arith
-record-long (row l) = omega arith
-record-long (candidate l) = omega arith
-record-long end = omega arith
+use Rattle.reader.proofs.Look.{LiesAt, lies-front, Peeked, fits-peek, FitsAs, alive-fits, peek-far}
 
 -- a next record, by the machine
 pub record StandsAt (s : List ℕ) (at : ℕ) (x : Record) : Type 0 where
@@ -53,17 +44,8 @@ pub record StandsAt (s : List ℕ) (at : ℕ) (x : Record) : Type 0 where
   pub comes : run Start (take at s) ≡ state
   pub fits : Fits state x behind
   pub within : at + length (recordBytes x) ≤ length s
-  pub there : drop at s ≡ recordBytes x ++ drop (length (recordBytes x)) (drop at s)
+  pub lies : LiesAt s at (recordBytes x)
   pub begins : Begins (take (at + length (recordBytes x)) s)
-
-pub head-fits : {q z : State} {x : Record} {xs : List Record} → Takes q (x ∷ xs) z → (y : State) × Fits q x y
-head-fits (takes f t) = (_, f)
-
-case-fits : (c : Case) → WellFormed c → (xs ys : List Record) (x : Record) → records c ≡ xs ++ (x ∷ ys) → (q : State) × Takes Start xs q × (z : State) × Fits q x z
-case-fits c w xs ys x e =
-    let t = takes-split xs (subst (λ zs. Takes Start zs (Over (last c))) e (case-takes c w)) in
-    let f = head-fits (t .2) in
-    (t .0, t .1, f .0, f .1)
 
 pub next-within : {s : List ℕ} {at : ℕ} {x : Record} → NextRecord s at x → at + length (recordBytes x) ≤ length s
 next-within {s} {at} {x} N =
@@ -71,13 +53,16 @@ next-within {s} {at} {x} N =
     let size : length (take (at + w) s) ≡ at + w = ap length (N .holds) ∙ length-append (flat (N .passed)) (recordBytes x) ∙ ap (λ j. j + w) (sym (N .begins)) in
     omega (arith, length-take (at + w) s)
 
+pub next-passed : {s : List ℕ} {at : ℕ} {x : Record} (N : NextRecord s at x) → take at s ≡ flat (N .passed)
+next-passed {s} {at} {x} N =
+    sym (take-take at (at + length (recordBytes x)) s (omega arith)) ∙ ap (take at) (N .holds) ∙ take-at (flat (N .passed)) (recordBytes x) at (sym (N .begins))
+
 pub next-standing : {s : List ℕ} {at : ℕ} {x : Record} → NextRecord s at x → StandsAt s at x
 next-standing {s} {at} {x} N =
     let w : ℕ = length (recordBytes x) in
     let f = case-fits (N .case) (N .well-formed) (N .passed) (N .to-come) x (N .listed) in
     let good = takes-viable (f .1) tt in
-    let front : take at s ≡ flat (N .passed) =
-    sym (take-take at (at + w) s (omega arith)) ∙ ap (take at) (N .holds) ∙ take-at (flat (N .passed)) (recordBytes x) at (sym (N .begins)) in
+    let front = next-passed N in
     let bytes : take w (drop at s) ≡ recordBytes x =
     sym (append-cancel-left (flat (N .passed)) _ _ (sym (N .holds) ∙ take-add at w s ∙ ap (λ u. u ++ take w (drop at s)) front)) in
     let comes : run Start (take (at + w) s) ≡ f .2 =
@@ -88,7 +73,7 @@ next-standing {s} {at} {x} N =
       comes = ap (run Start) front ∙ takes-end (f .1) tt;
       fits = f .3;
       within = next-within N;
-      there = sym (take-append-drop w (drop at s)) ∙ ap (λ u. u ++ drop w (drop at s)) bytes;
+      lies = lies-front w (omega (arith, next-within N)) bytes;
       begins = viable-begins _ (subst Viable (sym comes) (fits-viable (f .3) good));
     }
 
@@ -96,7 +81,7 @@ next-standing {s} {at} {x} N =
 pub next-peeked : {s : List ℕ} {at : ℕ} {x : Record} {q : State} → NextRecord s at x → run Start (take at s) ≡ q → Peeked s at x (recordAt q at (drop at s))
 next-peeked {s} {at} {x} {q} N e =
     let S = next-standing N in
-    subst (λ z. Peeked s at x (recordAt z at (drop at s))) (sym (S .comes) ∙ e) (fits-peek (S .fits) s at _ (omega (arith, S .within)) (S .there))
+    subst (λ z. Peeked s at x (recordAt z at (drop at s))) (sym (S .comes) ∙ e) (fits-peek (S .fits) (S .lies))
 
 next-before : {s : List ℕ} {at k : ℕ} {x : Record} → NextRecord s at x → Place s k → at + length (recordBytes x) ≤ k
 next-before {s} {at} {k} {x} N P =
@@ -140,20 +125,23 @@ fits-next {s} {at} {w} {q} R h F =
       holds = take-add at (length (recordBytes (F .read))) s ∙ ap₂ _++_ (A .bytes) (ap (λ j. take j (drop at s)) size ∙ F .bytes);
     }
 
-pub step-hands : {s : List ℕ} {at e : ℕ} {q z : State} {a : Ahead} {x : Step} → Scans s at q → a ≡ recordAt q at (drop at s) → a ≡ ahead.Record x e → Scans s e z
+fits-handed : {s : List ℕ} {at e : ℕ} {q : State} {x : Step} (w : ℕ) → Scans s at q → recordAt q at (drop at s) ≡ ahead.Record x e → w ≤ length (drop at s)
+    → FitsAs q (take w (drop at s)) → StepIs s at (steppedTo x at e)
+fits-handed w R h size F =
+    let is = peeked-is (fits-peek (F .fits) (lies-front w (R .within) (F .bytes))) h in
+    hands (F .read) (fits-next R size F) (is .0) refl (is .1)
+
+pub step-hands : {s : List ℕ} {at e : ℕ} {q z : State} {x : Step} → Scans s at q → recordAt q at (drop at s) ≡ ahead.Record x e → Scans s e z
     → StepIs s at (steppedTo x at e)
-step-hands {s} {at} {e} {q} {z} {a} {x} R h k Z =
-    let far : at ≤ e = peek-far q (drop at s) h k in
+step-hands {s} {at} {e} {q} {z} R h Z =
+    let far : at ≤ e = peek-far q (drop at s) h in
     let w : ℕ = e - at in
-    let sum : e ≡ at + w = omega arith in
+    let sum : at + w ≡ e = omega arith in
     let size : w ≤ length (drop at s) = simp length-drop (omega (arith, Z .within)) in
     let t : List ℕ = take w (drop at s) in
     let comes : run q t ≡ z =
-    ap (λ y. run y t) (sym (R .comes)) ∙ sym (run-append Start (take at s) t) ∙ ap (run Start) (sym (take-add at w s) ∙ ap (λ j. take j s) (sym sum)) ∙ Z .comes in
-    let F = alive-fits q at (drop at s) w h k sum size (viable-alive (subst Viable (sym comes) (Z .viable))) in
-    let P = fits-peek (F .fits) s at (drop w (drop at s)) (R .within) (sym (take-append-drop w (drop at s)) ∙ ap (λ u. u ++ drop w (drop at s)) (F .bytes)) in
-    let is = peeked-is P (sym h ∙ k) in
-    hands (F .read) (fits-next R size F) (is .0) refl (is .1)
+    ap (λ y. run y t) (sym (R .comes)) ∙ sym (run-append Start (take at s) t) ∙ ap (run Start) (sym (take-add at w s) ∙ ap (λ j. take j s) sum) ∙ Z .comes in
+    fits-handed w R h size (alive-fits at (drop at s) h size (viable-alive (subst Viable (sym comes) (Z .viable))))
 
 pub step-over : {s : List ℕ} {at : ℕ} {q : State} {h : Head} → Scans s at q → q ≡ Over h → at ≡ length s → StepIs s at (steppedTo step.Over at at)
 step-over {s} {at} {h = h} R e l =
@@ -167,17 +155,16 @@ pub step-cut : {s : List ℕ} {at : ℕ} {q : State} → Scans s at q → at ≡
 step-cut {s} {at} R h f =
     refuses at (λ x N. omega (arith, next-standing N .within, record-long x)) (λ E. f _ (sym (R .comes) ∙ ended-comes E)) (place-end R (omega arith)) refl refl refl
 
-pub step-stops : {s : List ℕ} {at e k : ℕ} {q : State} {a : Ahead} {x : Step} → Scans s at q → (at ≡ length s → ⊥) → a ≡ recordAt q at (drop at s)
-    → a ≡ ahead.Record x e → Place s k → k < e → StepIs s at (steppedTo (step.Refused k) at at)
-step-stops {s} {at} {e} {k} R f h i P l =
-    let far : (y : Record) → NextRecord s at y → e ≡ at + length (recordBytes y) =
-    λ y N. peeked-is (next-peeked N (R .comes)) (sym h ∙ i) .1 in
+pub step-stops : {s : List ℕ} {at e k : ℕ} {q : State} {x : Step} → Scans s at q → (at ≡ length s → ⊥) → recordAt q at (drop at s) ≡ ahead.Record x e
+    → Place s k → k < e → StepIs s at (steppedTo (step.Refused k) at at)
+step-stops {s} {at} {e} {k} R f h P l =
+    let far : (y : Record) → NextRecord s at y → e ≡ at + length (recordBytes y) = λ y N. peeked-is (next-peeked N (R .comes)) h .1 in
     refuses k (λ y N. omega (arith, next-before N P, far y N)) (λ E. f (E .length-of)) P refl refl refl
 
-pub step-nothing : {s : List ℕ} {at k : ℕ} {q : State} {a : Ahead} → Scans s at q → (at ≡ length s → ⊥) → a ≡ recordAt q at (drop at s) → a ≡ ahead.Nothing
-    → Place s k → StepIs s at (steppedTo (step.Refused k) at at)
-step-nothing {k = k} R f h i P =
-    refuses k (λ y N. nothing-record (sym i ∙ h ∙ next-peeked N (R .comes) .ahead)) (λ E. f (E .length-of)) P refl refl refl
+pub step-nothing : {s : List ℕ} {at k : ℕ} {q : State} → Scans s at q → (at ≡ length s → ⊥) → recordAt q at (drop at s) ≡ ahead.Nothing → Place s k
+    → StepIs s at (steppedTo (step.Refused k) at at)
+step-nothing {k = k} R f h P =
+    refuses k (λ y N. nothing-record (sym h ∙ next-peeked N (R .comes) .ahead)) (λ E. f (E .length-of)) P refl refl refl
 
 -- any two answers agree
 abbrev stepOf : Record → Step
@@ -187,34 +174,28 @@ stepOf (row l) = step.Row
 stepOf (candidate l) = step.Candidate
 stepOf end = step.End
 
-pub some-same : {A : Type 0} {x y : A} → some x ≡ some y → x ≡ y
-some-same e = cc
-
-pub none-some : {A : Type 0} {x : A} → _≡_ {A = Option A} none (some x) → ⊥
-none-some e = let z : _≡_ {A = ℕ} 0 1 = cc in omega arith
-
 step-known : (l : List ℕ) (a : Step) (x : Record) → recordWith l a ≡ some x → a ≡ stepOf x
-step-known l (step.Field p n) x h = ap stepOf (some-same h)
-step-known l (step.Allow high low) x h = ap stepOf (some-same h)
-step-known l step.Row x h = ap stepOf (some-same h)
-step-known l step.Candidate x h = ap stepOf (some-same h)
-step-known l step.End x h = ap stepOf (some-same h)
-step-known l step.Over x h = absurd (none-some h)
-step-known l (step.Refused j) x h = absurd (none-some h)
+step-known l (step.Field p n) x h = ap stepOf (Option·some-injective _ _ h)
+step-known l (step.Allow high low) x h = ap stepOf (Option·some-injective _ _ h)
+step-known l step.Row x h = ap stepOf (Option·some-injective _ _ h)
+step-known l step.Candidate x h = ap stepOf (Option·some-injective _ _ h)
+step-known l step.End x h = ap stepOf (Option·some-injective _ _ h)
+step-known l step.Over x h = absurd (Option·none-ne-some _ h)
+step-known l (step.Refused j) x h = absurd (Option·none-ne-some _ h)
 
 pub step-refused : (a : Step) (k : ℕ) → refusalOf a ≡ some (8, k) → a ≡ step.Refused k
-step-refused (step.Field p n) k h = absurd (none-some h)
-step-refused (step.Allow high low) k h = absurd (none-some h)
-step-refused step.Row k h = absurd (none-some h)
-step-refused step.Candidate k h = absurd (none-some h)
-step-refused step.End k h = absurd (none-some h)
-step-refused step.Over k h = absurd (none-some h)
-step-refused (step.Refused j) k h = ap (λ x. step.Refused (x .1)) (some-same h)
+step-refused (step.Field p n) k h = absurd (Option·none-ne-some _ h)
+step-refused (step.Allow high low) k h = absurd (Option·none-ne-some _ h)
+step-refused step.Row k h = absurd (Option·none-ne-some _ h)
+step-refused step.Candidate k h = absurd (Option·none-ne-some _ h)
+step-refused step.End k h = absurd (Option·none-ne-some _ h)
+step-refused step.Over k h = absurd (Option·none-ne-some _ h)
+step-refused (step.Refused j) k h = ap (λ x. step.Refused (x .1)) (Option·some-injective _ _ h)
 
 pub next-same : {s : List ℕ} {at : ℕ} {x y : Record} → NextRecord s at x → NextRecord s at y → x ≡ y
 next-same M N =
     let Q = next-peeked N refl in
-    some-same (sym (peeked-is (next-peeked M refl) (Q .ahead) .0) ∙ Q .is)
+    Option·some-injective _ _ (sym (peeked-is (next-peeked M refl) (Q .ahead) .0) ∙ Q .is)
 
 pub next-ended : {s : List ℕ} {at : ℕ} {x : Record} → NextRecord s at x → Ended s at → ⊥
 next-ended {x = x} N E = omega (arith, next-standing N .within, record-long x, E .length-of)

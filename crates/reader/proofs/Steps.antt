@@ -8,31 +8,32 @@
 --   handed-compare   of what is handed out and the first records of a case that s holds, one begins the other
 --   handed-case      what is handed out of a case are its first records
 --   front-next       a record of a case is next behind the records before it, where s holds it and them
---   case-front       the first records of a case are its first bytes
+--   handed-stuck     where there is neither a next record nor the end, there is no case
 --   steps-case       of a case the steps hand out its records, in their order, and then say that it is over, again and again
 --   steps-refused    of what is none they hand out records, and then say the place, again and again; no record is left that lies before it
---   ends-none        where the steps end no record is next
+--   ends-no-next        where the steps end no record is next
 --   steps-all        they hand out all records that s holds from its front on
 -- Assumes nothing.
 use mathlib.Core.Path.{_≡_, refl, sym, ap, subst, _∙_}
 use mathlib.Core.Logic.{_⊎_, ⊎-elim}
 use mathlib.Core.List.{List, [], _∷_, _++_, append-assoc, append-nil}
-use mathlib.Core.Option.{some}
+use mathlib.Core.Option.{some, Option·none-ne-some, Option·some-injective}
 use Prim.Native.Nat.{ℕ, zero, suc, _+_, _≤_}
 use native.Mathlib.Decide.{decLe}
 use native.Mathlib.Nat.{le-refl, le-antisymm}
 use native.Mathlib.Omega.{arith}
 use lib.ListN.{length, take, drop, length-append, take-append-drop}
-use lib.Seq.{take-take, take-at, take-length, length-take-le}
+use lib.Seq.{length-take-le}
 use Rattle.meaning.specs.Case.{Record, recordBytes, flat, Case, records, caseBytes, WellFormed, IsCase, Place}
+use Rattle.meaning.proofs.Flat.{record-long, flat-one, BeginsWith, front-shorter, case-front}
+use Rattle.meaning.proofs.Place.{place-past}
 use Rattle.scan.specs.declared.State.{State}
 use Rattle.scan.specs.declared.State.the-variants.{Start, Over}
 use Rattle.scan.specs.Machine.{run, Viable, Scans}
 use Rattle.scan.proofs.Records.{Takes, takes-append, takes-split, takes-end, takes-viable, case-takes, last}
 use Rattle.scan.proofs.Records.Takes.{stays, takes}
-use Rattle.scan.proofs.Place.{scans-start, scan-to, scan-place, viable-begins, place-past}
-use Rattle.scan.proofs.Unique.{takes-compare, over-last}
-use Rattle.scan.proofs.Case.{flat-append, flat-length}
+use Rattle.scan.proofs.Place.{scans-start, scan-to, scan-place, viable-begins}
+use Rattle.scan.proofs.Compare.{takes-compare, over-last}
 use Rattle.scan.proofs.Decide.{over-or, scan-exists}
 use Rattle.reader.specs.declared.Step.{Step}
 use Rattle.reader.specs.declared.Step.the-variants as step
@@ -45,20 +46,20 @@ use Rattle.reader.specs.Step.StepIs.{hands, over, refuses}
 use Rattle.reader.specs.Step.Handed.{at-front, more}
 use Rattle.reader.specs.Look.{recordAt}
 use Rattle.reader.proofs.Look.{peek-far}
-use Rattle.reader.proofs.Stepping.{record-long, next-within, next-standing, next-peeked, some-same, none-some, step-refused}
+use Rattle.reader.proofs.Stepping.{next-within, next-passed, next-standing, next-peeked, step-refused}
 use Rattle.reader.proofs.Stepping.{step-hands, step-over, step-early, step-cut, step-stops, step-nothing, step-unique}
 
 -- there is an answer
-answer-ahead : {s : List ℕ} {at : ℕ} {q : State} (a : Ahead) → Scans s at q → (at ≡ length s → ⊥) → a ≡ recordAt q at (drop at s) → (r : Stepped) × StepIs s at r
+answer-ahead : {s : List ℕ} {at : ℕ} {q : State} (a : Ahead) → Scans s at q → (at ≡ length s → ⊥) → recordAt q at (drop at s) ≡ a → (r : Stepped) × StepIs s at r
 answer-ahead {s} {at} {q} (ahead.Record x e) S f h =
-    let Z = scan-exists S (peek-far q (drop at s) h refl) in
+    let Z = scan-exists S (peek-far q (drop at s) h) in
     elim (decLe e (Z .at)) [
-      | yes l ↦ (steppedTo x at e, step-hands S h refl (scan-to (Z .is) l))
-      | no l ↦ (steppedTo (step.Refused (Z .at)) at at, step-stops S f h refl (Z .is .stop (omega arith)) (omega arith))
+      | yes l ↦ (steppedTo x at e, step-hands S h (scan-to (Z .is) l))
+      | no l ↦ (steppedTo (step.Refused (Z .at)) at at, step-stops S f h (Z .is .stop (omega arith)) (omega arith))
     ]
 answer-ahead {s} {at} ahead.Nothing S f h =
     let Z = scan-exists S (S .within) in
-    (steppedTo (step.Refused (Z .at)) at at, step-nothing S f h refl (scan-place (Z .is) (le-refl _)))
+    (steppedTo (step.Refused (Z .at)) at at, step-nothing S f h (scan-place (Z .is) (le-refl _)))
 
 answer-end : {s : List ℕ} {at : ℕ} {q : State} → Scans s at q → at ≡ length s → (r : Stepped) × StepIs s at r
 answer-end {s} {at} {q} S e =
@@ -90,20 +91,16 @@ moved-unique {a = a} {b = b} {x = x} {y = y} m n =
 pub handed-next : {s : List ℕ} {at : ℕ} {x : Record} {r : Stepped} → StepIs s at r → recordOf s r ≡ some x
     → NextRecord s at x × (r .next .at ≡ at + length (recordBytes x))
 handed-next {s} {at} {x} {r} (hands y N h d e) k =
-    let same : y ≡ x = some-same (sym h ∙ k) in
+    let same : y ≡ x = Option·some-injective _ _ (sym h ∙ k) in
     (subst (NextRecord s at) same N, e ∙ ap (λ z. at + length (recordBytes z)) same)
-handed-next {s} {r = r} (over E h d e) k = absurd (none-some (ap (recordWith (entriesIn s r)) (sym h) ∙ k))
-handed-next {s} {r = r} (refuses j n m P h d e) k = absurd (none-some (ap (recordWith (entriesIn s r)) (sym (step-refused (r .step) j h)) ∙ k))
+handed-next {s} {r = r} (over E h d e) k = absurd (Option·none-ne-some _ (ap (recordWith (entriesIn s r)) (sym h) ∙ k))
+handed-next {s} {r = r} (refuses j n m P h d e) k = absurd (Option·none-ne-some _ (ap (recordWith (entriesIn s r)) (sym (step-refused (r .step) j h)) ∙ k))
 
 -- what is handed out is what the next record is
 pub next-step : {s : List ℕ} {at : ℕ} {x : Record} → NextRecord s at x → (r : Stepped) × StepIs s at r × (recordOf s r ≡ some x) × (r .next .at ≡ at + length (recordBytes x))
 next-step {s} {at} {x} N =
     let P = next-peeked N refl in
     (steppedTo (P .said) at (P .next), hands x N (P .is) refl (P .behind), P .is, P .behind)
-
-flat-one : (xs : List Record) (x : Record) → flat (xs ++ (x ∷ [])) ≡ flat xs ++ recordBytes x
-unfolding flat
-flat-one xs x = flat-append xs (x ∷ []) ∙ ap (λ t. flat xs ++ t) (append-nil (recordBytes x))
 
 -- the records lead where the bytes do
 record Led (s : List ℕ) (xs : List Record) (at : ℕ) : Type 0 where
@@ -117,10 +114,8 @@ led-next : {s : List ℕ} {xs : List Record} {at e : ℕ} {x : Record} → Led s
     → Led s (xs ++ (x ∷ [])) e
 led-next {s} {xs} {at} {e} {x} A N h =
     let S = next-standing N in
-    let front : take at s ≡ flat (N .passed) =
-    sym (take-take at (at + length (recordBytes x)) s (omega arith)) ∙ ap (take at) (N .holds) ∙ take-at (flat (N .passed)) (recordBytes x) at (sym (N .begins)) in
     let bytes : flat (xs ++ (x ∷ [])) ≡ take e s =
-    flat-one xs x ∙ ap (λ t. t ++ recordBytes x) (A .bytes ∙ front) ∙ sym (N .holds) ∙ ap (λ j. take j s) (sym h) in
+    flat-one xs x ∙ ap (λ t. t ++ recordBytes x) (A .bytes ∙ next-passed N) ∙ sym (N .holds) ∙ ap (λ j. take j s) (sym h) in
     let same : A .state ≡ S .state = sym (A .comes) ∙ S .comes in
     let lead : Takes Start (xs ++ (x ∷ [])) (S .behind) = takes-append (subst (Takes Start xs) same (A .lead)) (takes (S .fits) stays) in
     record {
@@ -146,7 +141,7 @@ handed-length {s} {xs} {at} H = let A = handed-led H in sym (length-take-le at s
 
 -- records that s holds from its front on, and that begin a case, are in front of what is handed out, or the other way round
 pub handed-compare : {s : List ℕ} {xs : List Record} {at : ℕ} {c : Case} (ys zs : List Record) → Handed s xs at → WellFormed c → records c ≡ ys ++ zs
-    → take (length (flat ys)) s ≡ flat ys → ((ws : List Record) × (ys ≡ xs ++ ws)) ⊎ ((ws : List Record) × (xs ≡ ys ++ ws))
+    → BeginsWith s ys → ((ws : List Record) × (ys ≡ xs ++ ws)) ⊎ ((ws : List Record) × (xs ≡ ys ++ ws))
 handed-compare {s} {xs} {at} {c} ys zs H w e h =
     let A = handed-led H in
     let T = takes-split ys (subst (λ rs. Takes Start rs (Over (last c))) e (case-takes c w)) in
@@ -158,17 +153,16 @@ pub handed-case : {s : List ℕ} {xs : List Record} {at : ℕ} {c : Case} → Ha
     → (ys : List Record) × (records c ≡ xs ++ ys) × (at ≡ length (flat xs))
 unfolding caseBytes
 handed-case {s} {xs} {at} {c} H i =
-    let all : take (length (flat (records c))) s ≡ flat (records c) = ap (λ t. take (length t) s) (sym (i .whole)) ∙ take-length s ∙ i .whole in
     ⊎-elim (λ l. (l .0, l .1, handed-length H))
     (λ l.
     let none-left : l .0 ≡ [] =
     over-last (records c) (l .0) (case-takes c (i .well-formed)) (subst (λ rs. Takes Start rs (handed-led H .state)) (l .1) (handed-led H .lead)) tt in
     ([], sym (l .1 ∙ ap (λ ws. records c ++ ws) none-left ∙ append-nil (records c)) ∙ sym (append-nil xs), handed-length H))
-    (handed-compare (records c) [] H (i .well-formed) (sym (append-nil (records c))) all)
+    (handed-compare (records c) [] H (i .well-formed) (sym (append-nil (records c))) (case-front i (records c) [] (sym (append-nil (records c)))))
 
 -- a record of a case, behind records that s holds from its front on, is next where s holds it too
 pub front-next : {s : List ℕ} {c : Case} (xs ys : List Record) (x : Record) → WellFormed c → records c ≡ xs ++ (x ∷ ys)
-    → take (length (flat (xs ++ (x ∷ [])))) s ≡ flat (xs ++ (x ∷ [])) → NextRecord s (length (flat xs)) x
+    → BeginsWith s (xs ++ (x ∷ [])) → NextRecord s (length (flat xs)) x
 front-next {s} {c} xs ys x w e h =
     let size : length (flat xs) + length (recordBytes x) ≡ length (flat (xs ++ (x ∷ []))) = sym (ap length (flat-one xs x) ∙ length-append (flat xs) (recordBytes x)) in
     record {
@@ -181,6 +175,19 @@ front-next {s} {c} xs ys x w e h =
       holds = ap (λ j. take j s) size ∙ h ∙ flat-one xs x;
     }
 
+stuck : {s : List ℕ} {c : Case} (xs ys : List Record) → IsCase s c → records c ≡ xs ++ ys → ((x : Record) → ¬ NextRecord s (length (flat xs)) x)
+    → ¬ Ended s (length (flat xs)) → ⊥
+unfolding caseBytes
+stuck {s} {c} xs [] i e N E =
+    E (record { case = c; is = i; length-of = ap (λ l. length (flat l)) (sym (e ∙ append-nil xs)) ∙ ap length (sym (i .whole)) })
+stuck {s} {c} xs (y ∷ ys) i e N E = N y (front-next xs ys y (i .well-formed) e (case-front i (xs ++ (y ∷ [])) ys (e ∙ sym (append-assoc xs (y ∷ []) ys))))
+
+pub handed-stuck : {s : List ℕ} {xs : List Record} {at : ℕ} {c : Case} → Handed s xs at → ((x : Record) → ¬ NextRecord s at x) → ¬ Ended s at
+    → IsCase s c → ⊥
+handed-stuck {s} {xs} H N E i =
+    let b = handed-case H i in
+    stuck xs (b .0) i (b .1) (λ x n. N x (subst (λ j. NextRecord s j x) (sym (b .2)) n)) (λ n. E (subst (Ended s) (sym (b .2)) n))
+
 -- the steps of a case
 handed-more : {s : List ℕ} {xs : List Record} {x : Record} → Handed s xs (length (flat xs)) → NextRecord s (length (flat xs)) x
     → Handed s (xs ++ (x ∷ [])) (length (flat (xs ++ (x ∷ []))))
@@ -188,11 +195,6 @@ handed-more {s} {xs} {x} H N =
     let r = next-step N in
     let size : r .0 .next .at ≡ length (flat (xs ++ (x ∷ []))) = r .3 ∙ sym (ap length (flat-one xs x) ∙ length-append (flat xs) (recordBytes x)) in
     subst (Handed s (xs ++ (x ∷ []))) size (more (r .0) H (r .1) (r .2))
-
-pub case-front : {s : List ℕ} {c : Case} → IsCase s c → (xs ys : List Record) → records c ≡ xs ++ ys → take (length (flat xs)) s ≡ flat xs
-unfolding caseBytes
-case-front {s} i xs ys e =
-    ap (take (length (flat xs))) (i .whole ∙ ap flat e ∙ flat-append xs ys) ∙ take-at (flat xs) (flat ys) (length (flat xs)) refl
 
 handed-records : {s : List ℕ} {c : Case} → IsCase s c → (ys xs : List Record) → records c ≡ xs ++ ys → Handed s xs (length (flat xs))
     → Handed s (records c) (length (flat (records c)))
@@ -209,35 +211,22 @@ steps-case {s} {c} i =
     record { at = at; handed = handed-records i (records c) [] refl at-front; says = said; every = λ r S. step-unique S said }
 
 -- where the steps end no record is next
-pub ends-none : {s : List ℕ} {xs : List Record} {e : Step} (E : Ends s xs e) (x : Record) → ¬ NextRecord s (E .at) x
-ends-none E x N =
+pub ends-no-next : {s : List ℕ} {xs : List Record} {e : Step} (E : Ends s xs e) (x : Record) → ¬ NextRecord s (E .at) x
+ends-no-next E x N =
     let r = next-step N in
     let stays : r .0 .next .at ≡ E .at = ap (λ (y : Stepped). y .next .at) (E .every (r .0) (r .1)) in
     omega (arith, r .3, record-long x)
 
--- a front of a front
-front-shorter : (s : List ℕ) (xs ws : List Record) → take (length (flat (xs ++ ws))) s ≡ flat (xs ++ ws) → take (length (flat xs)) s ≡ flat xs
-front-shorter s xs ws h =
-    let k : ℕ = length (flat xs) in
-    let size : length (flat (xs ++ ws)) ≡ k + length (flat ws) = flat-length xs ws in
-    sym (take-take k (length (flat (xs ++ ws))) s (omega arith)) ∙ ap (take k) (h ∙ flat-append xs ws) ∙ take-at (flat xs) (flat ws) k refl
-
--- what is longer than what is handed out would be handed out
-not-longer : {s : List ℕ} {xs : List Record} {e : Step} {c : Case} → Ends s xs e → WellFormed c → (v : Record) (ws zs : List Record)
-    → records c ≡ xs ++ (v ∷ (ws ++ zs)) → take (length (flat (xs ++ (v ∷ ws)))) s ≡ flat (xs ++ (v ∷ ws)) → ⊥
-not-longer {s} {xs} E w v ws zs e h =
-    let one : take (length (flat (xs ++ (v ∷ [])))) s ≡ flat (xs ++ (v ∷ [])) =
-    front-shorter s (xs ++ (v ∷ [])) ws (subst (λ rs. take (length (flat rs)) s ≡ flat rs) (sym (append-assoc xs (v ∷ []) ws)) h) in
-    ends-none E v (subst (λ j. NextRecord s j v) (sym (handed-length (E .handed))) (front-next xs (ws ++ zs) v w e one))
-
 pub steps-all : {s : List ℕ} {xs : List Record} {e : Step} {c : Case} → Ends s xs e → WellFormed c → (ys zs : List Record) → records c ≡ ys ++ zs
-    → take (length (flat ys)) s ≡ flat ys → (ws : List Record) × (xs ≡ ys ++ ws)
+    → BeginsWith s ys → (ws : List Record) × (xs ≡ ys ++ ws)
 steps-all {s} {xs} E w ys zs e h = ⊎-elim (λ l. go (l .0) (l .1)) (λ l. l) (handed-compare ys zs (E .handed) w e h)
   where
     go : (ws : List Record) → ys ≡ xs ++ ws → (us : List Record) × (xs ≡ ys ++ us)
     go [] f = ([], sym (f ∙ append-nil xs) ∙ sym (append-nil ys))
     go (v ∷ ws) f =
-        absurd (not-longer E w v ws zs (e ∙ ap (λ rs. rs ++ zs) f ∙ append-assoc xs (v ∷ ws) zs) (subst (λ rs. take (length (flat rs)) s ≡ flat rs) f h))
+        let one = front-shorter s (xs ++ (v ∷ [])) ws (subst (BeginsWith s) (f ∙ sym (append-assoc xs (v ∷ []) ws)) h) in
+        let next = front-next xs (ws ++ zs) v w (e ∙ ap (λ rs. rs ++ zs) f ∙ append-assoc xs (v ∷ ws) zs) one in
+        absurd (ends-no-next E v (subst (λ j. NextRecord s j v) (sym (handed-length (E .handed))) next))
 
 -- the steps of what is no case
 handed-before : {s : List ℕ} {xs : List Record} {at k : ℕ} → Handed s xs at → Place s k → at ≤ k
@@ -255,21 +244,18 @@ steps-stop {s} {xs} {at} {k} H P n m =
       none-left = n;
     }
 
--- one step, and what follows where it hands out a record
-steps-on : {s : List ℕ} {xs : List Record} {at k : ℕ} → ((c : Case) → ¬ IsCase s c) → Place s k → Handed s xs at → (r : Stepped) → StepIs s at r
-    → ((x : Record) → NextRecord s at x → r .next .at ≡ at + length (recordBytes x) → Handed s (xs ++ (x ∷ [])) (r .next .at) → Stops s k) → Stops s k
-steps-on n P H r (hands x N h d e) f = f x N e (more r H (hands x N h d e) h)
-steps-on n P H r (over E h d e) f = absurd (n (E .case) (E .is))
-steps-on n P H r (refuses j m l Q h d e) f = steps-stop H P m l
+module _ {s : List ℕ} {k : ℕ} (n : (c : Case) → ¬ IsCase s c) (P : Place s k) where
+  -- one step, and what follows where it hands out a record
+  steps-on : {xs : List Record} {at : ℕ} {r : Stepped} → Handed s xs at → StepIs s at r
+      → ((x : Record) → NextRecord s at x → r .next .at ≡ at + length (recordBytes x) → Handed s (xs ++ (x ∷ [])) (r .next .at) → Stops s k) → Stops s k
+  steps-on {r = r} H (hands x N h d e) f = f x N e (more r H (hands x N h d e) h)
+  steps-on H (over E h d e) f = absurd (n (E .case) (E .is))
+  steps-on H (refuses j m l Q h d e) f = steps-stop H P m l
 
--- j bytes are left at the most
-steps-go : (j : ℕ) {s : List ℕ} {xs : List Record} {at k : ℕ} → ((c : Case) → ¬ IsCase s c) → Place s k → Handed s xs at → length s ≤ at + j → Stops s k
-steps-go zero {s} {at = at} n P H h =
-    let r = step-exists s at in
-    steps-on n P H (r .0) (r .1) (λ x N e G. absurd (omega (arith, next-within N, record-long x)))
-steps-go (suc j) {s} {at = at} n P H h =
-    let r = step-exists s at in
-    steps-on n P H (r .0) (r .1) (λ x N e G. steps-go j n P G (omega (arith, record-long x)))
+  -- j bytes are left at the most
+  steps-go : (j : ℕ) {xs : List Record} {at : ℕ} → Handed s xs at → length s ≤ at + j → Stops s k
+  steps-go zero {at = at} H h = steps-on H (step-exists s at .1) (λ x N e G. absurd (omega (arith, next-within N, record-long x)))
+  steps-go (suc j) {at = at} H h = steps-on H (step-exists s at .1) (λ x N e G. steps-go j G (omega (arith, record-long x)))
 
-pub steps-refused : {s : List ℕ} {k : ℕ} → ((c : Case) → ¬ IsCase s c) → Place s k → Stops s k
-steps-refused {s} n P = steps-go (length s) n P at-front (omega arith)
+  pub steps-refused : Stops s k
+  steps-refused = steps-go (length s) at-front (omega arith)

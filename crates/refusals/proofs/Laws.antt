@@ -1,12 +1,7 @@
 -- The number that is due, from the tests that were run.
 --   applies        a test that does not fail applies
---   prime-told     test 1, from the code's prime test
 --   due-here, due-passed   the number of a test that applies, and of one that does not
 --   earlier-next, earlier-kept   of two numbers the one that is due
---   first-here, first-next, first-end   the first test of a list applies, or does not, or there is none
---   first-front, first-past  a number due from the front of a list is due from the whole; where none is due, the rest decides
---   size-told      n is 1 to 64 where tests 1 and 2 do not apply
---   rows-over, rows-whole   whole rows leave no rest, and the other way round
 --   number-some, number-none   the number of a refusal
 --   Numbered ts    no test of ts has the number 0
 --   some-number, none-number   a number other than 0 is that of a refusal, and 0 that of none
@@ -15,25 +10,19 @@
 --   buffers-number   test 6 of two buffers, after all others
 -- Assumes nothing.
 use mathlib.Core.Path.{_≡_, refl, sym, ap, ap₂, _∙_}
-use mathlib.Core.Bool.{Bool, true, false, not, _||_}
+use mathlib.Core.Bool.{Bool, true, false, _||_}
 use mathlib.Core.List.{List, [], _∷_, _++_}
-use mathlib.Core.Option.{Option, none, some, Option·none-ne-some}
-use Prim.Native.Nat.{ℕ, zero, suc, _+_, _*_, _/_, _%_, _<_, _≤_}
-use native.Mathlib.Nat.{lt-irrefl, add-zero, div-add-mod', mul-mod-left}
+use mathlib.Core.Option.{Option, none, some}
+use Prim.Native.Nat.{ℕ, zero, suc, _+_, _<_}
+use native.Mathlib.Nat.{lt-irrefl}
 use lib.Dec.{leb}
-use lib.ListN.{length}
-use Rattle.meaning.specs.Refusal.{isPrime, noPrime, noSize, noMatrix, noRows, noVector, noPolynomial, badEntry, tooShort, first, inverseRefusal, orderRefusal, imageRefusal}
-use Rattle.meaning.proofs.Refusal.{noSize-false, noRows-false, first-none}
-use Rattle.meaning.specs.Bounds.{widest}
+use Rattle.meaning.specs.Refusal.{noPrime, noSize, noMatrix, noRows, noVector, noPolynomial, badEntry, tooShort, first, inverseRefusal, orderRefusal, imageRefusal}
+use Rattle.meaning.proofs.Refusal.{first-past}
 use Rattle.refusals.specs.Numbers.{numberOf, due, earlier}
 
 pub applies : (b : Bool) → ¬ (b ≡ false) → b ≡ true
 applies true h = refl
 applies false h = absurd (h refl)
-
-pub prime-told : {b t : Bool} (p : ℕ) → b ≡ isPrime p → b ≡ t → noPrime p ≡ not t
-unfolding noPrime
-prime-told p e h = ap not (sym e ∙ h)
 
 pub due-here : {k : ℕ} {b : Bool} → b ≡ true → k ≡ due k b
 unfolding due
@@ -51,42 +40,6 @@ pub earlier-kept : (a b : ℕ) → ¬ (a ≡ 0) → a ≡ earlier a b
 unfolding earlier
 earlier-kept zero b h = absurd (h refl)
 earlier-kept (suc a) b h = refl
-
--- the tests one by one
-pub first-here : (k : ℕ) (b : Bool) (ts : List (ℕ × Bool)) → b ≡ true → first ((k, b) ∷ ts) ≡ some k
-unfolding first
-first-here k b ts e = rw e
-
-pub first-next : (k : ℕ) (b : Bool) (ts : List (ℕ × Bool)) → b ≡ false → first ((k, b) ∷ ts) ≡ first ts
-unfolding first
-first-next k b ts e = rw e
-
-pub first-end : first [] ≡ none
-unfolding first
-first-end = refl
-
--- the tests in two parts
-pub first-front : {k : ℕ} (ts us : List (ℕ × Bool)) → first ts ≡ some k → first (ts ++ us) ≡ some k
-unfolding first
-first-front {k} [] us e = absurd (Option·none-ne-some k e)
-first-front ((j, true) ∷ ts) us e = e
-first-front ((j, false) ∷ ts) us e = first-front ts us e
-
-pub first-past : (ts us : List (ℕ × Bool)) → first ts ≡ none → first (ts ++ us) ≡ first us
-unfolding first
-first-past [] us e = refl
-first-past ((j, true) ∷ ts) us e = absurd (Option·none-ne-some j (sym e))
-first-past ((j, false) ∷ ts) us e = first-past ts us e
-
--- n is in its bounds where test 2 does not apply
-pub size-told : (p n : ℕ) (ts : List (ℕ × Bool)) → first ((1, noPrime p) ∷ (2, noSize n) ∷ ts) ≡ none → (1 ≤ n) × (n ≤ widest)
-size-told p n ts q = noSize-false n (first-none _ _ _ (first-none _ _ _ q .1) .0)
-
-pub rows-over : (n : ℕ) (cs : List ℕ) → 0 < n → noRows n cs ≡ false → length cs % n ≡ 0
-rows-over n cs h q = ap (λ l. l % n) (noRows-false n cs h q .0) ∙ mul-mod-left (length cs / n) n
-
-pub rows-whole : (n : ℕ) (cs : List ℕ) → length cs % n ≡ 0 → length cs ≡ length cs / n * n
-rows-whole n cs e = sym (div-add-mod' (length cs) n) ∙ ap (λ r. length cs / n * n + r) e ∙ add-zero _
 
 -- numbers, 0 for none
 pub number-some : {k : ℕ} (q : Option ℕ) → q ≡ some k → k ≡ numberOf q

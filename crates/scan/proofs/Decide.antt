@@ -14,13 +14,13 @@ use native.Mathlib.Omega.{arith}
 use lib.ListN.{length, getD}
 use lib.Seq.{take-length}
 use Rattle.meaning.specs.Case.{Case, IsCase, Place}
+use Rattle.meaning.proofs.Place.{case-past}
 use Rattle.scan.specs.declared.Head.{Head}
 use Rattle.scan.specs.declared.State.{State}
 use Rattle.scan.specs.declared.State.the-variants.{Start, Opening, Modulus, Size, Body, Letter, Entries, Over, Dead}
 use Rattle.scan.specs.Machine.{after, run, Scans, ScanIs}
 use Rattle.scan.proofs.Run.{Alive}
 use Rattle.scan.proofs.Place.{over-case, case-over, scans-start, scans-turn, place-dead, place-end, scan-to}
-use Rattle.scan.proofs.Case.{case-past}
 
 -- a state is Dead or not, and Over or not
 pub dead-or : (q : State) → (q ≡ Dead) ⊎ Alive q

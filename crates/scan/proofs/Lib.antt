@@ -2,6 +2,5 @@ pub mod Run
 pub mod Records
 pub mod Place
 pub mod Tags
-pub mod Unique
-pub mod Case
+pub mod Compare
 pub mod Decide

@@ -1,24 +1,21 @@
 -- What bytes begin, and the place of refusal 8, by the machine.
 --   over-case, case-over   bytes that lead to Over are a well-formed case, and the other way round
 --   viable-begins, begins-alive   bytes begin a well-formed case exactly when they do not lead to Dead
---   begins-front     what is in front of a beginning is one
---   place-past       no beginning lies behind the place
---   place-unique     there is one place
 --   scans-start, scans-turn, scans-begins   a scan from the front, over one byte more, and that its bytes begin a case
 --   place-dead, place-end   the place is where a byte leads to Dead, or the end
 --   scan-to          a scan that got as far as it was asked to
 --   scan-place       a scan that was to go to the end stops at the place
---   run-next         the state behind one byte more
+--   run-byte         the state behind one byte more
 -- Assumes nothing.
 use mathlib.Core.Path.{_≡_, refl, sym, ap, subst, _∙_}
-use mathlib.Core.List.{List, [], _∷_, _++_, append-assoc}
+use mathlib.Core.List.{List, [], _∷_, _++_}
 use Prim.Native.Nat.{ℕ, suc, _+_, _<_, _≤_, zero-le}
 use native.Mathlib.Decide.{decLe}
 use native.Mathlib.Nat.{le-antisymm}
 use native.Mathlib.Numerals.{add-one}
 use native.Mathlib.Omega.{arith}
-use lib.ListN.{length, getD, take, drop, take-append-drop}
-use lib.Seq.{take-suc, take-take}
+use lib.ListN.{length, getD, take}
+use lib.Seq.{take-suc}
 use Rattle.meaning.specs.Case.{flat, Case, caseBytes, IsCase, Begins, Place}
 use Rattle.scan.specs.declared.Head.{Head}
 use Rattle.scan.specs.declared.State.{State}
@@ -50,23 +47,6 @@ pub begins-alive : (s : List ℕ) → Begins s → Alive (run Start s)
 begins-alive s b =
     run-alive (run Start s) (b .rest) (viable-alive (subst Viable (sym (case-over (b .is)) ∙ run-append Start s (b .rest)) tt))
 
-begins-append : (s t : List ℕ) → Begins (s ++ t) → Begins s
-begins-append s t b = record { rest = t ++ b .rest; case = b .case; is = subst (λ u. IsCase u (b .case)) (append-assoc s t (b .rest)) (b .is) }
-
-pub begins-front : (k : ℕ) (s : List ℕ) → Begins s → Begins (take k s)
-begins-front k s b = begins-append (take k s) (drop k s) (subst Begins (sym (take-append-drop k s)) b)
-
--- the place
-pub place-past : (s : List ℕ) (k j : ℕ) → Place s k → j ≤ length s → Begins (take j s) → j ≤ k
-place-past s k j P h b =
-    elim (decLe j k) [
-      | yes l ↦ l
-      | no l ↦ absurd (P .at-it (omega arith) (subst Begins (take-take (suc k) j s (omega arith)) (begins-front (suc k) (take j s) b)))
-    ]
-
-pub place-unique : (s : List ℕ) (j k : ℕ) → Place s j → Place s k → j ≡ k
-place-unique s j k P Q = omega (arith, place-past s k j Q (P .within) (P .before), place-past s j k P (Q .within) (Q .before))
-
 -- a scan
 pub scans-start : (s : List ℕ) → Scans s 0 Start
 unfolding run
@@ -75,13 +55,13 @@ scans-start s = record { within = zero-le; comes = refl; viable = tt }
 pub scans-begins : {s : List ℕ} {i : ℕ} {q : State} → Scans s i q → Begins (take i s)
 scans-begins {s} {i} r = viable-begins (take i s) (subst Viable (sym (r .comes)) (r .viable))
 
-pub run-next : (s : List ℕ) (i : ℕ) → i < length s → run Start (take (suc i) s) ≡ after (run Start (take i s)) (getD s i 0)
+pub run-byte : (s : List ℕ) (i : ℕ) → i < length s → run Start (take (suc i) s) ≡ after (run Start (take i s)) (getD s i 0)
 unfolding run
-run-next s i h = ap (run Start) (take-suc s i 0 h) ∙ run-append Start (take i s) (getD s i 0 ∷ [])
+run-byte s i h = ap (run Start) (take-suc s i 0 h) ∙ run-append Start (take i s) (getD s i 0 ∷ [])
 
 pub scans-turn : {s : List ℕ} {i : ℕ} {q z : State} → Scans s i q → i < length s → z ≡ after q (getD s i 0) → Alive z → Scans s (i + 1) z
 scans-turn {s} {i} {q} {z} r h e a =
-    let comes : run Start (take (suc i) s) ≡ z = run-next s i h ∙ ap (λ x. after x (getD s i 0)) (r .comes) ∙ sym e in
+    let comes : run Start (take (suc i) s) ≡ z = run-byte s i h ∙ ap (λ x. after x (getD s i 0)) (r .comes) ∙ sym e in
     record {
       within = omega arith;
       comes = rw add-one comes;
@@ -93,7 +73,7 @@ place-dead {s} {i} r h e =
     record {
       within = r .within;
       before = scans-begins r;
-      at-it = λ _ b. begins-alive (take (suc i) s) b (run-next s i h ∙ ap (λ x. after x (getD s i 0)) (r .comes) ∙ e);
+      at-it = λ _ b. begins-alive (take (suc i) s) b (run-byte s i h ∙ ap (λ x. after x (getD s i 0)) (r .comes) ∙ e);
     }
 
 pub place-end : {s : List ℕ} {i : ℕ} {q : State} → Scans s i q → length s ≤ i → Place s i

@@ -7,6 +7,7 @@
 --   last c           what the machine keeps behind the whole case c
 --   CaseOf xs        a well-formed case whose records are xs
 --   case-takes, takes-case   a well-formed case is a list of records that leads from Start to Over, and no other list does
+--   case-fits        a record of a case may come behind those before it
 --   over-takes       no record comes behind E
 --   Whole q          no record is under way
 --   fits-whole       no record is under way in front of a record and behind it
@@ -16,7 +17,7 @@
 --   Finished, whole-finish   one where no record is under way does so by records
 -- Assumes nothing.
 use mathlib.Core.Path.{_≡_, refl, sym, ap, subst, _∙_}
-use mathlib.Core.Bool.{Bool, true, false}
+use mathlib.Core.Bool.{Bool, true, false, false≢true}
 use mathlib.Core.List.{List, [], _∷_, _++_, map, append-assoc, append-nil}
 use mathlib.Core.Option.{Option, none, some}
 use Prim.Native.Nat.{ℕ, zero, suc, _+_, _<_, _≤_}
@@ -32,12 +33,13 @@ use Rattle.meaning.specs.Refusal.{isPrime, allBelow}
 use Rattle.meaning.specs.Case.{Record, recordBytes, flat, Case, records, allowRecord, RowsOf, Halves, WellFormed, radix}
 use Rattle.meaning.specs.Case.Record.{field, allow, row, candidate, end}
 use Rattle.meaning.proofs.Bytes.{zeros-small}
+use Rattle.meaning.proofs.Refusal.{prime-positive}
 use Rattle.scan.specs.declared.Head.{Head}
 use Rattle.scan.specs.declared.State.{State}
 use Rattle.scan.specs.declared.State.the-variants.{Start, Opening, Modulus, Size, Body, Letter, Entries, Over, Dead}
-use Rattle.algebra.specs.Field.{pick}
+use Rattle.algebra.proofs.Field.{pick-each}
 use Rattle.scan.specs.Machine.{only, begun, stale, opened, sized, letter, entered, after, run, Ranged, Viable}
-use Rattle.scan.proofs.Run.{Alive, pick-each, prime-positive, run-dead, viable-after, entries-run}
+use Rattle.scan.proofs.Run.{Alive, run-dead, viable-after, entries-run}
 
 pub data Fits : State → Record → State → Type 0 where
   fits-field : {p n : ℕ} → isPrime p ≡ true → 1 ≤ n → n ≤ widest → Fits Start (field p n) (Body (begun p n))
@@ -154,12 +156,18 @@ case-takes c w =
     go none h t u = t
     go (some a) h t u = takes (fits-allow refl (h .0) (h .1)) u
 
+head-fits : {q z : State} {x : Record} {xs : List Record} → Takes q (x ∷ xs) z → (y : State) × Fits q x y
+head-fits (takes f t) = (_, f)
+
+pub case-fits : (c : Case) → WellFormed c → (xs ys : List Record) (x : Record) → records c ≡ xs ++ (x ∷ ys) → (q : State) × Takes Start xs q × (z : State) × Fits q x z
+case-fits c w xs ys x e =
+    let t = takes-split xs (subst (λ zs. Takes Start zs (Over (last c))) e (case-takes c w)) in
+    let f = head-fits (t .2) in
+    (t .0, t .1, f .0, f .1)
+
 -- and no other list of records does
 pub over-takes : {h : Head} {z : State} {xs : List Record} → Takes (Over h) xs z → xs ≡ []
 over-takes stays = refl
-
-false-true : false ≡ true → ⊥
-false-true e = let z : _≡_ {A = ℕ} 0 1 = ap (λ t. pick t 1 0) e in omega arith
 
 record CandidatePart (p n m : ℕ) (xs : List Record) : Type 0 where
   listed : List (List ℕ)
@@ -169,7 +177,7 @@ record CandidatePart (p n m : ℕ) (xs : List Record) : Type 0 where
 
 candidate-part : {h k : Head} {xs : List Record} → false ≡ h .fresh → h .n ≤ h .count → h .count ≤ h .n + mostCandidates → Takes (Body h) xs (Over k)
     → CandidatePart (h .p) (h .n) (h .count) xs
-candidate-part f i k (takes (fits-allow g a b) t) = absurd (false-true (f ∙ g))
+candidate-part f i k (takes (fits-allow g a b) t) = absurd (false≢true (f ∙ g))
 candidate-part f i k (takes (fits-row l e s) t) = absurd (omega arith)
 candidate-part f i k (takes (fits-candidate {l = r} l j e s) t) =
     let c = candidate-part refl (omega arith) (omega arith) t in
@@ -212,7 +220,7 @@ one-row {l = l} e s c =
     }
 
 row-part : {h k : Head} {xs : List Record} → false ≡ h .fresh → h .count ≤ h .n → Takes (Body h) xs (Over k) → RowPart (h .p) (h .n) (h .count) xs
-row-part f i (takes (fits-allow g a b) t) = absurd (false-true (f ∙ g))
+row-part f i (takes (fits-allow g a b) t) = absurd (false≢true (f ∙ g))
 row-part f i (takes (fits-row l e s) t) = one-row e s (row-part refl (omega arith) t)
 row-part f i (takes (fits-candidate l j e s) t) = no-rows (omega arith) (candidate-part f l (omega arith) (takes (fits-candidate l j e s) t))
 row-part f i (takes (fits-end l) t) = no-rows (omega arith) (candidate-part f l (omega arith) (takes (fits-end l) t))

@@ -1,8 +1,7 @@
 -- The machine that goes over the bytes: runs one after another, what a test lets through, and that a viable state is followed by a viable one or by Dead.
 --   Alive q          q is not Dead
 --   run-append, run-dead, run-alive   a run over two lists; from Dead; what is alive behind more bytes was alive before them
---   pick-each, only-alive   what holds on both sides of a test; what is alive behind a test has passed it
---   prime-positive   a prime is above 0
+--   only-alive       what is alive behind a test has passed it
 --   viable-alive, viable-after   a viable state is alive, and so is what follows it unless it is Dead
 --   entries-run, entries-small   as many entries as are to come, each below the bound, lead behind the record, and nothing else does
 --   after-as, start-mark, start-dead, opening-letter, opening-dead, modulus-prime, modulus-dead, body-mark, body-dead   the state behind one more byte, as
@@ -19,11 +18,11 @@ use borrow.Author.Tests.{leb-true, leb-false, ltb-true, lt-ltb, le-leb, lt-leb, 
 use Rattle.meaning.specs.Bytes.{Small}
 use Rattle.meaning.specs.Bounds.{mostCandidates, widest}
 use Rattle.meaning.specs.Refusal.{isPrime}
-use Rattle.meaning.proofs.Refusal.{isPrime-prime}
+use Rattle.meaning.proofs.Refusal.{prime-positive}
 use Rattle.scan.specs.declared.Head.{Head}
 use Rattle.scan.specs.declared.State.{State}
 use Rattle.scan.specs.declared.State.the-variants.{Start, Opening, Modulus, Size, Body, Letter, Entries, Over, Dead}
-use Rattle.algebra.specs.Field.{pick}
+use Rattle.algebra.proofs.Field.{pick-each}
 use Rattle.scan.specs.Machine.{only, opened, sized, letter, entered, after, run, Ranged, Viable}
 
 abbrev pub Alive : State → Type 0
@@ -46,11 +45,6 @@ run-dead (b ∷ t) = run-dead t
 pub run-alive : (q : State) (t : List ℕ) → Alive (run q t) → Alive q
 run-alive q t h e = h (ap (λ x. run x t) e ∙ run-dead t)
 
--- what holds on both sides of a test holds behind it
-pub pick-each : {A : Type 0} (P : A → Type 0) (t : Bool) {a b : A} → (t ≡ true → P a) → (t ≡ false → P b) → P (pick t a b)
-pick-each P true h k = h refl
-pick-each P false h k = k refl
-
 -- what is alive behind a test has passed it
 pub only-alive : (t : Bool) (q : State) (l : List ℕ) → Alive (run (only t q) l) → (t ≡ true) × Alive (run q l)
 only-alive true q l h = (refl, h)
@@ -62,9 +56,6 @@ Sane q = Alive q → Viable q
 
 only-sane : (t : Bool) {q : State} → (t ≡ true → Sane q) → Sane (only t q)
 only-sane t h = pick-each Sane t h (λ _ d. absurd (d refl))
-
-pub prime-positive : (p : ℕ) → isPrime p ≡ true → 0 < p
-prime-positive p e = omega (arith, isPrime-prime p e .0 .big)
 
 letter-sane : (h : Head) (b : ℕ) → Ranged h → Sane (letter h b)
 unfolding letter

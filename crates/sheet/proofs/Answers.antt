@@ -1,7 +1,7 @@
 -- What the calls answered is what the sheet says.
---   written-front    the front of what a call wrote
 --   stages-read      the stages of a record, whatever stands behind it
 --   stood-given, chained-given, perioded-given   the lines of each answer that is a result
+--   CaseAnswers      what the calls answered on a case, and what their buffers hold
 --   caseLines        the lines read off all the answers
 --   CaseLines        they are the sheet's, and there is room for them
 --   case-lines       so it is, where the values are sound
@@ -9,28 +9,29 @@
 use mathlib.Core.Path.{_≡_, refl, sym, ap, ap₂, _∙_, subst}
 use mathlib.Core.List.{List, [], _∷_, _++_, map, append-assoc}
 use mathlib.Core.Option.{Option, none, some}
-use Prim.Native.Nat.{ℕ, suc, _+_, _-_, _*_, _^_, _<_, _≤_}
+use Prim.Native.Nat.{ℕ, suc, _+_, _-_, _^_, _<_, _≤_}
 use native.Mathlib.Numerals.{add-one}
 use native.Mathlib.Nat.{le-refl}
 use native.Mathlib.Omega.{arith}
 use lib.ListN.{length, take, drop, replicate, length-append, length-replicate}
-use lib.Seq.{take-append-le, take-at, drop-at}
+use lib.Seq.{take-at, drop-at}
 use Rattle.algebra.specs.Field.{Prime}
 use Rattle.algebra.specs.Row.{S}
-use Rattle.algebra.specs.Poly.{Poly, coef, act}
+use Rattle.algebra.specs.Poly.{coef, act}
 use Rattle.algebra.specs.Orders.{WithDegree, Stages, end, pass, stage, product}
 use Rattle.meaning.specs.Bytes.{times, e, bytes, write, padded}
 use Rattle.meaning.specs.Bounds.{coefficients, widest, Sound, SoundRows}
 use Rattle.meaning.specs.Stand.{Standing, proved, short, Outcome, witnessRow}
 use Rattle.meaning.specs.Chain.{stageBytes, stageRoom}
-use Rattle.meaning.specs.Calls.{given, StandCall, ChainCall, PeriodCall}
+use Rattle.meaning.specs.Calls.{given, StandResult, StandCall, ChainResult, ChainCall, PeriodCall}
 use Rattle.meaning.specs.Line.{Line, text}
 use Rattle.meaning.specs.Sheet.{fieldLine, standLines, stageLine, chainLine, periodLine, SheetLines, sheetRoom}
-use Rattle.meaning.proofs.Bytes.{bytes-length, bytes-take, bytes-monic}
+use Rattle.meaning.proofs.Bytes.{bytes-length, bytes-monic}
 use Rattle.meaning.proofs.Degrees.{stand-degree}
 use Rattle.meaning.proofs.Refusal.{sound-stand, sound-chain, sound-period}
 use Rattle.meaning.proofs.SheetRoom.{sheetLines-room}
 use Rattle.meaning.proofs.Called.{refused-given}
+use Rattle.meaning.proofs.Written.{written-front}
 use Rattle.calls.specs.Answers.{stoodOf, chainedOf, periodedOf}
 use Rattle.calls.specs.declared.Counts.{Counts}
 use Rattle.calls.specs.declared.Stood.{Stood}
@@ -41,37 +42,35 @@ use Rattle.calls.specs.declared.Perioded.{Perioded}
 use Rattle.calls.specs.declared.Perioded.the-variants as perioded
 use Rattle.sheet.specs.Lines.{countsLine, unwitnessedLine, stoodLines, StoodFits, StagesIn, stageLinesIn, chainedLines, ChainedFits, periodedLines}
 
-pub written-front : {p : ℕ} {new : List ℕ} (k n : ℕ) (s : S p) (old : List ℕ) → k ≤ n → new ≡ write (bytes n s) old → (take k new ≡ bytes k s) × (k ≤ length new)
-unfolding write
-written-front k n s old h q = (
-  ap (take k) q ∙ take-append-le k (bytes n s) _ (omega (arith, bytes-length n s)) ∙ bytes-take k n s h,
-  omega (arith, ap length q, length-append (bytes n s) (drop (length (bytes n s)) old), bytes-length n s),
-)
-
 -- the stand
 abbrev stoodOutcome : Standing → Counts → ℕ → Outcome
 stoodOutcome s c w = record { standing = s; degree = c .degree; taken = c .taken; spent = c .spent; witness = w }
 
-stood-given : {p : ℕ} (n : ℕ) (X : S p → S p) (f : Poly p) (r : Stood) (o : Outcome) (poly image : List ℕ) (old : List ℕ × List ℕ) → stoodOf r ≡ given o
-    → o .degree ≤ n → poly ≡ write (bytes (suc n) (coef f)) (old .0) → image ≡ write (bytes n (witnessRow X f (o .standing) (o .witness))) (old .1)
-    → (stoodLines n r poly image ≡ standLines n X (o .standing) o f) × StoodFits n r poly image
-stood-given n X f (stood.Proved c) o poly image old q h a b =
+stood-given : {p n a : ℕ} {m cs poly image : List ℕ} {o : Outcome} {old : List ℕ × List ℕ} (r : Stood) → Prime p → stoodOf r ≡ given o
+    → (R : StandResult p n m cs a old o (poly, image))
+    → (stoodLines n r poly image ≡ standLines n (times p n m) (o .standing) o (R .poly)) × StoodFits n r poly image
+stood-given {n = n} {a} {m} {cs} {o = o} {old = old} (stood.Proved c) P q R =
+    let f = R .poly in
     let z : stoodOutcome proved c 0 ≡ o = cc in
-    let w = written-front (c .degree + 1) (suc n) (coef f) (old .0) (omega (arith, h, ap (λ (o : Outcome). o .degree) z)) a in (
+    let d = stand-degree P n m cs a o f (R .stand) in
+    let w = written-front (c .degree + 1) (suc n) (coef f) (old .0) (omega (arith, ap (λ (o : Outcome). o .degree) z)) (R .polynomial) in (
       ap (λ l. countsLine "STAND proved" c ∷ record { word = "MINPOLY"; numbers = l } ∷ unwitnessedLine ∷ []) (w .0 ∙ ap (λ k. bytes k (coef f)) (add-one (c .degree)))
-          ∙ ap (λ (o : Outcome). standLines n X (o .standing) o f) z,
+          ∙ ap (λ (o : Outcome). standLines n (times _ n m) (o .standing) o f) z,
       w .1,
     )
-stood-given n X f (stood.Short c u) o poly image old q h a b =
+stood-given {n = n} {a} {m} {cs} {o = o} {old = old} (stood.Short c u) P q R =
+    let f = R .poly in
+    let X = times _ n m in
     let z : stoodOutcome short c u ≡ o = cc in
-    let w = written-front (c .degree + 1) (suc n) (coef f) (old .0) (omega (arith, h, ap (λ (o : Outcome). o .degree) z)) a in
-    let v = written-front n n (act X f (e u)) (old .1) (le-refl n) (b ∙ ap (λ (o : Outcome). write (bytes n (witnessRow X f (o .standing) (o .witness))) (old .1)) (sym z)) in (
+    let d = stand-degree P n m cs a o f (R .stand) in
+    let w = written-front (c .degree + 1) (suc n) (coef f) (old .0) (omega (arith, ap (λ (o : Outcome). o .degree) z)) (R .polynomial) in
+    let v = written-front n n (act X f (e u)) (old .1) (le-refl n) (R .witness ∙ ap (λ (o : Outcome). write (bytes n (witnessRow X f (o .standing) (o .witness))) (old .1)) (sym z)) in (
       ap₂ (λ l i. countsLine "STAND short" c ∷ record { word = "DIVISOR"; numbers = l } ∷ record { word = "WITNESS"; numbers = u ∷ i } ∷ [])
           (w .0 ∙ ap (λ k. bytes k (coef f)) (add-one (c .degree))) (v .0)
           ∙ ap (λ (o : Outcome). standLines n X (o .standing) o f) z,
       (w .1, v .1),
     )
-stood-given n X f (stood.Refused k) o poly image old q h a b = absurd (refused-given k o q)
+stood-given {o = o} (stood.Refused k) P q R = absurd (refused-given k o q)
 
 -- the stages of the record, whatever stands behind it
 stages-read : {p : ℕ} {X : S p → S p} → Prime p → (seen vs : List (S p)) (st : List (WithDegree p)) → Stages X seen vs st → (rest : List ℕ)
@@ -92,54 +91,64 @@ stages-read P seen vs st (stage {s} {st = ss} h l A) rest =
       (omega (arith, ap length c, length-append b r, bytes-length (s .deg) (coef (s .poly))), subst (StagesIn (length ss)) (sym d) (i .1)),
     )
 
-chained-given : {p : ℕ} {X : S p → S p} → Prime p → (n : ℕ) (vs : List (S p)) (st : List (WithDegree p)) (r : Chained) (prod record-bytes : List ℕ) (old : List ℕ × List ℕ) → chainedOf r ≡ given (length st)
-    → Stages X [] vs st → prod ≡ write (bytes (suc n) (coef (product st))) (old .0) → record-bytes ≡ write (padded (stageRoom n) (stageBytes st)) (old .1)
-    → (chainedLines n r prod record-bytes ≡ map stageLine st ++ (chainLine n st ∷ [])) × ChainedFits n r prod record-bytes
+chained-given : {p n count : ℕ} {m cs prod stages : List ℕ} {old : List ℕ × List ℕ} (r : Chained) → Prime p → chainedOf r ≡ given count
+    → (R : ChainResult p n m cs old count (prod, stages))
+    → (chainedLines n r prod stages ≡ map stageLine (R .stages) ++ (chainLine n (R .stages) ∷ [])) × ChainedFits n r prod stages
 unfolding write padded
-chained-given P n vs st (chained.Stages k) prod record-bytes old q A a b =
-    let z : k ≡ length st = cc in
-    let w = written-front (n + 1) (suc n) (coef (product st)) (old .0) (omega arith) a in
+chained-given {n = n} {count} {stages = stages} {old = old} (chained.Stages k) P q R =
+    let st = R .stages in
+    let z : k ≡ length st = cc (R .number) in
+    let w = written-front (n + 1) (suc n) (coef (product st)) (old .0) (omega arith) (R .product) in
     let rest = replicate (stageRoom n - length (stageBytes st)) 0 ++ drop (length (padded (stageRoom n) (stageBytes st))) (old .1) in
-    let l : record-bytes ≡ stageBytes st ++ rest = b ∙ append-assoc (stageBytes st) _ _ in
-    let i = stages-read P [] vs st A rest in (
+    let l : stages ≡ stageBytes st ++ rest = R .record-bytes ∙ append-assoc (stageBytes st) _ _ in
+    let i = stages-read P [] _ st (R .chain) rest in (
       ap₂ (λ x y. x ++ (record { word = "CHAIN"; numbers = y } ∷ [])) (ap₂ stageLinesIn z l ∙ i .0) (w .0 ∙ ap (λ k. bytes k (coef (product st))) (add-one n)),
       (w .1, subst (StagesIn k) (sym l) (subst (λ j. StagesIn j (stageBytes st ++ rest)) (sym z) (i .1))),
     )
-chained-given P n vs st (chained.Refused k) prod record-bytes old q A a b = absurd (refused-given k (length st) q)
+chained-given {count = count} (chained.Refused k) P q R = absurd (refused-given k count q)
 
 perioded-given : (r : Perioded) (t : Option ℕ) → periodedOf r ≡ given t → periodedLines r ≡ periodLine t ∷ []
 perioded-given (perioded.Least k) t q = let z : some k ≡ t = cc in ap (λ t. periodLine t ∷ []) z
 perioded-given perioded.Never t q = let z : none ≡ t = cc in ap (λ t. periodLine t ∷ []) z
 perioded-given (perioded.Refused k) t q = absurd (refused-given k t q)
 
+pub record CaseAnswers : Type 0 where
+  pub stood : Stood
+  pub poly : List ℕ
+  pub image : List ℕ
+  pub chained : Chained
+  pub product : List ℕ
+  pub stages : List ℕ
+  pub perioded : Perioded
+
 -- all the lines
-abbrev pub caseLines : (p n : ℕ) → Stood → Chained → Perioded → List ℕ → List ℕ → List ℕ → List ℕ → List Line
-caseLines p n s c r poly image prod stages = fieldLine p n ∷ (stoodLines n s poly image ++ (chainedLines n c prod stages ++ periodedLines r))
+abbrev pub caseLines : (p n : ℕ) → CaseAnswers → List Line
+caseLines p n A = fieldLine p n ∷ (stoodLines n (A .stood) (A .poly) (A .image) ++ (chainedLines n (A .chained) (A .product) (A .stages) ++ periodedLines (A .perioded)))
 
-pub record CaseLines (p n : ℕ) (m cs : List ℕ) (a : ℕ) (s : Stood) (c : Chained) (r : Perioded) (poly image prod stages : List ℕ) : Type 0 where
-  pub lines : SheetLines p n m cs a (caseLines p n s c r poly image prod stages)
-  pub stood-fits : StoodFits n s poly image
-  pub chained-fits : ChainedFits n c prod stages
-  pub room : length (text (caseLines p n s c r poly image prod stages)) ≤ sheetRoom
+pub record CaseLines (p n : ℕ) (m cs : List ℕ) (a : ℕ) (A : CaseAnswers) : Type 0 where
+  pub lines : SheetLines p n m cs a (caseLines p n A)
+  pub stood-fits : StoodFits n (A .stood) (A .poly) (A .image)
+  pub chained-fits : ChainedFits n (A .chained) (A .product) (A .stages)
+  pub room : length (text (caseLines p n A)) ≤ sheetRoom
 
-pub case-lines : {p n a : ℕ} {m cs : List ℕ} {s : Stood} {c : Chained} {r : Perioded} {poly image prod stages : List ℕ} → Sound p n m → SoundRows p n cs → a < 2 ^ 32
-    → StandCall p n m cs a (replicate coefficients 0, replicate widest 0) (stoodOf s) (poly, image) → ChainCall p n m cs (replicate coefficients 0, replicate (stageRoom widest) 0) (chainedOf c) (prod, stages)
-    → PeriodCall p n m (periodedOf r) → CaseLines p n m cs a s c r poly image prod stages
-case-lines {p} {n} {a} {m} {cs} {s} {c} {r} {poly} {image} {prod} {stages} A B h F G H =
-    let P = A .prime in
-    let (o, so, F′) = F .result (sound-stand p n m cs _ _ A B (simp length-replicate (omega (arith, A .size))) (simp length-replicate (A .size))) in
-    let (k, sk, G′) = G .result (sound-chain p n m cs _ _ A B (simp length-replicate (omega (arith, A .size))) (simp length-replicate (omega (arith, A .size)))) in
-    let (t, st, H′) = H .result (sound-period p n m A) in
-    let x = stood-given n (times p n m) (F′ .poly) s o poly image (replicate coefficients 0, replicate widest 0) so (stand-degree P n m cs a o (F′ .poly) (F′ .stand)) (F′ .polynomial) (F′ .witness) in
-    let y = chained-given P n _ (G′ .stages) c prod stages (replicate coefficients 0, replicate (stageRoom widest) 0) (sk ∙ ap given (G′ .number)) (G′ .chain) (G′ .product) (G′ .record-bytes) in
-    let L : SheetLines p n m cs a (caseLines p n s c r poly image prod stages) = record {
+pub case-lines : {p n a : ℕ} {m cs : List ℕ} {A : CaseAnswers} → Sound p n m → SoundRows p n cs → a < 2 ^ 32
+    → StandCall p n m cs a (replicate coefficients 0, replicate widest 0) (stoodOf (A .stood)) (A .poly, A .image)
+    → ChainCall p n m cs (replicate coefficients 0, replicate (stageRoom widest) 0) (chainedOf (A .chained)) (A .product, A .stages)
+    → PeriodCall p n m (periodedOf (A .perioded)) → CaseLines p n m cs a A
+case-lines {p} {n} {a} {m} {cs} {A} D B h F G H =
+    let (o, so, S) = F .result (sound-stand p n m cs _ _ D B (simp length-replicate (omega (arith, D .size))) (simp length-replicate (D .size))) in
+    let (k, sk, C) = G .result (sound-chain p n m cs _ _ D B (simp length-replicate (omega (arith, D .size))) (simp length-replicate (omega (arith, D .size)))) in
+    let (t, st, T) = H .result (sound-period p n m D) in
+    let x = stood-given (A .stood) (D .prime) so S in
+    let y = chained-given (A .chained) (D .prime) sk C in
+    let L : SheetLines p n m cs a (caseLines p n A) = record {
       outcome = o;
-      poly = F′ .poly;
-      stand = F′ .stand;
-      stages = G′ .stages;
-      chain = G′ .chain;
+      poly = S .poly;
+      stand = S .stand;
+      stages = C .stages;
+      chain = C .chain;
       period = t;
-      returns = H′;
-      lines = ap (λ l. fieldLine p n ∷ l) (ap₂ _++_ (x .0) (ap₂ _++_ (y .0) (perioded-given r t st) ∙ append-assoc (map stageLine (G′ .stages)) _ _));
+      returns = T;
+      lines = ap (λ l. fieldLine p n ∷ l) (ap₂ _++_ (x .0) (ap₂ _++_ (y .0) (perioded-given (A .perioded) t st) ∙ append-assoc (map stageLine (C .stages)) _ _));
     } in
-    record { lines = L; stood-fits = x .1; chained-fits = y .1; room = sheetLines-room n m cs a _ A B (omega arith) L }
+    record { lines = L; stood-fits = x .1; chained-fits = y .1; room = sheetLines-room n m cs a _ D B (omega arith) L }

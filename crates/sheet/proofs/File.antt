@@ -1,33 +1,27 @@
 -- The sheet of a file, from what reading it gave.
 --   CaseRead s p n a count m cs   the values read are those of the case that the file is
---   read-case, read-refused       what an answer of each kind says
+--   read-case                     what an answer that is a case says
 --   read-sound                    no call refuses the values read
 --   case-file, refused-file       the text is the file's sheet
---   room-six, room-none           when the call refuses
 -- Assumes nothing.
 use mathlib.Core.Path.{_≡_, refl, sym, ap, ap₂, _∙_, subst}
 use mathlib.Core.List.{List, [], _∷_}
-use mathlib.Core.Option.{none, some, Option·none-ne-some, Option·some-injective}
+use mathlib.Core.Option.{Option·none-ne-some, Option·some-injective}
 use Prim.Native.Nat.{ℕ, _*_, _^_, _<_, _≤_}
-use native.Mathlib.Nat.{mul-le-mul}
-use native.Mathlib.Omega.{arith}
 use lib.ListN.{length, take}
-use lib.Seq.{take-at}
-use borrow.Author.Tests.{lt-ltb}
-use Rattle.meaning.specs.Bytes.{padded}
-use Rattle.meaning.specs.Bounds.{mostCandidates, widest, Sound, SoundRows}
-use Rattle.meaning.specs.Refusal.{first, tooShort}
+use Rattle.meaning.specs.Bounds.{Sound, SoundRows}
 use Rattle.meaning.specs.Case.{Case, IsCase, allowanceOf, matrixBytes, candidateBytes, Place}
 use Rattle.meaning.specs.Line.{text}
-use Rattle.meaning.specs.Sheet.{refusedLine, SheetLines, sheet, refused, sheetRoom}
+use Rattle.meaning.specs.Sheet.{refusedLine, SheetLines, sheet, refused}
 use Rattle.meaning.proofs.Case.{flatten-length, case-sound, case-sound-rows}
-use Rattle.meaning.proofs.Refusal.{none-first, long-tooShort}
 use Rattle.meaning.proofs.SheetRoom.{refused-room}
+use Rattle.meaning.proofs.Written.{padded-take}
 use Rattle.text.specs.declared.Text.{Text}
 use Rattle.text.specs.Text.{IsText}
 use Rattle.casefile.specs.declared.Reading.the-variants as answer
 use Rattle.casefile.specs.declared.Contents.{Contents}
 use Rattle.casefile.specs.Reading.{matrixRoom, candidateRoom, valuesOf, readRefusal, ReadIs, reads, refuses}
+use Rattle.casefile.proofs.Results.{read-sizes}
 use Rattle.sheet.specs.Lines.{CaseText, FileText}
 
 pub record CaseRead (s : List ℕ) (p n a count : ℕ) (m cs : List ℕ) : Type 0 where
@@ -41,18 +35,13 @@ pub record CaseRead (s : List ℕ) (p n a count : ℕ) (m cs : List ℕ) : Type 
   pub entries : n * n ≤ matrixRoom
   pub rows : count * n ≤ candidateRoom
 
-padded-take : (k j : ℕ) (l : List ℕ) → length l ≡ k → l ≡ take k (padded j l)
-unfolding padded
-padded-take k j l q = sym (take-at l _ k q)
-
 pub read-case : {s : List ℕ} {r : Contents} {p n a count : ℕ} → ReadIs s r → r .answer ≡ answer.Case p n a count → CaseRead s p n a count (r .matrix) (r .candidates)
 read-case {s} {r} {p} {n} {a} {count} (reads c i v f g) q =
     let w = i .well-formed in
     let e = Option·some-injective (p, n, a, count) (c .p, c .n, allowanceOf c, length (c .candidates)) (sym (ap valuesOf q) ∙ v) in
     let size : c .n ≡ n = sym (ap (λ x. x .1) e) in
     let number : length (c .candidates) ≡ count = sym (ap (λ x. x .3) e) in
-    let side : n ≤ widest = omega (arith, w .most) in
-    let few : count ≤ mostCandidates = omega (arith, w .few) in
+    let sizes = read-sizes (reads c i v f g) q in
     record {
       case = c;
       is = i;
@@ -61,16 +50,10 @@ read-case {s} {r} {p} {n} {a} {count} (reads c i v f g) q =
       allowance = sym (ap (λ x. x .2) e);
       matrix = padded-take (n * n) _ (matrixBytes c) (case-sound c w .matrix ∙ ap (λ k. k * k) size) ∙ ap (take (n * n)) (sym f);
       candidates = padded-take (count * n) _ (candidateBytes c) (flatten-length (c .p) (c .n) (c .candidates) (w .listed) ∙ ap₂ _*_ number size) ∙ ap (take (count * n)) (sym g);
-      entries = mul-le-mul side side;
-      rows = mul-le-mul few side;
+      entries = sizes .0;
+      rows = sizes .1;
     }
 read-case (refuses k none-is at v f g) q = absurd (Option·none-ne-some _ (sym (ap readRefusal q) ∙ v))
-
-pub read-refused : {s : List ℕ} {r : Contents} {k : ℕ} → ReadIs s r → r .answer ≡ answer.Refused k → ((c : Case) → ¬ IsCase s c) × Place s k
-read-refused (reads c i v f g) q = absurd (Option·none-ne-some _ (sym (ap valuesOf q) ∙ v))
-read-refused {s} {r} {k} (refuses j none-is at v f g) q =
-    let e = Option·some-injective (8, k) (8, j) (sym (ap readRefusal q) ∙ v) in
-    (none-is, subst (Place s) (sym (ap (λ x. x .1) e)) at)
 
 -- what holds of the case's values holds of those read
 carried : (P : ℕ → ℕ → List ℕ → List ℕ → ℕ → Type 0) {s : List ℕ} {p n a count : ℕ} {m cs : List ℕ} (R : CaseRead s p n a count m cs)
@@ -95,11 +78,3 @@ case-file R T =
 
 pub refused-file : {s : List ℕ} {k : ℕ} {t : Text} → ((c : Case) → ¬ IsCase s c) × Place s k → IsText t (text (refusedLine k ∷ [])) → k < 10 ^ 20 → FileText s t
 refused-file {k} N T h = record { bytes = text (refusedLine k ∷ []); sheet = refused k (N .0) (N .1) refl; is = T; room = refused-room k h }
-
-pub room-six : (out : List ℕ) → length out < sheetRoom → first ((6, tooShort sheetRoom out) ∷ []) ≡ some 6
-unfolding first tooShort
-room-six out h = rw (lt-ltb (length out) sheetRoom h)
-
-pub room-none : (out : List ℕ) → sheetRoom ≤ length out → first ((6, tooShort sheetRoom out) ∷ []) ≡ none
-unfolding first
-room-none out h = none-first 6 _ [] (long-tooShort sheetRoom out h) refl

@@ -5,30 +5,22 @@
 --   toward-last, last-room   all that is missing
 --   line-turn, line-room, lines-turn, lines-room   the same of lines, one after another, and of lists of lines
 --   empty-room, empty-text   a text that begins empty
---   room-bytes      the code's room is that of a sheet
 --   byte-appended   a byte more
 --   word-appended   a word more, pasted behind
---   paste-more      one byte more of the word
---   number-one, number-more   the digits of a number below 10, and those of any other
---   spaced-append, spaced-next, spaced-left   lists of numbers joined; the next numbers of a line, and of a list that is gone through
 -- Assumes nothing.
 use mathlib.Core.Path.{_≡_, refl, sym, ap, ap₂, _∙_}
 use mathlib.Core.List.{List, [], _∷_, _++_, append-assoc, append-nil}
-use Prim.Native.Nat.{ℕ, suc, _+_, _-_, _/_, _%_, _<_, _≤_}
+use Prim.Native.Nat.{ℕ, _+_, _<_, _≤_}
 use native.Mathlib.Numerals.{add-one}
 use native.Mathlib.Omega.{arith}
-use lib.ListN.{length, getD, take, drop, set, length-append}
-use lib.Seq.{drop-cons, take-suc-set, take-all, paste, take-paste, paste-suc}
+use lib.ListN.{length, take, set, length-append}
+use lib.Seq.{take-suc-set, take-all, paste, take-paste}
 use Rattle.meaning.specs.Ascii.{ascii}
-use Rattle.meaning.specs.Line.{digit, decimal, Line, spaced, lineBytes, text}
-use Rattle.meaning.proofs.Line.{decimal-one, decimal-more, text-append}
+use Rattle.meaning.specs.Line.{Line, lineBytes, text}
+use Rattle.meaning.proofs.Line.{text-append}
 use Rattle.meaning.specs.Sheet.{sheetRoom}
 use Rattle.text.specs.declared.Text.{Text}
 use Rattle.text.specs.Text.{printed, HasRoom, Appended, IsText, lineOf}
-
-pub room-bytes : sheetRoom ≡ 2048
-unfolding sheetRoom
-room-bytes = refl
 
 pub byte-appended : {t r : Text} {b : ℕ} → t .len < length (t .bytes) → r .bytes ≡ set (t .bytes) (t .len) b → r .len ≡ t .len + 1 → Appended t r (b ∷ [])
 unfolding printed
@@ -44,11 +36,6 @@ word-appended {t} {r} {s} {i} h a b e q = record {
   prints = ap₂ take q e ∙ take-paste (t .bytes) (t .len) s i (omega arith) a ∙ ap (λ l. take (t .len) (t .bytes) ++ l) (take-all i s b);
   size = omega arith;
 }
-
--- one byte more of the word
-pub paste-more : {new : List ℕ} (d : List ℕ) (at : ℕ) (s : List ℕ) (i : ℕ) → at + i < length d → i < length s → new ≡ paste d at s i
-    → set new (at + i) (getD s i 0) ≡ paste d at s (i + 1)
-paste-more d at s i h k e = ap (λ l. set l (at + i) (getD s i 0)) e ∙ paste-suc d at s i 0 h k ∙ ap (paste d at s) (sym (add-one i))
 
 pub record Toward (t : Text) (s : List ℕ) (out : Text) (rest : List ℕ) : Type 0 where
   pub prints : printed out ++ rest ≡ printed t ++ s
@@ -96,32 +83,3 @@ empty-room E h = record { room = omega (arith, E .size) }
 
 pub empty-text : {t r : Text} {s : List ℕ} → IsText t [] → Appended t r s → IsText r s
 empty-text {s} E A = record { prints = A .prints ∙ ap (λ l. l ++ s) (E .prints); size = omega (arith, E .size, A .size) }
-
--- a number: one digit, or the digits of its tenth and the last one
-pub number-one : {x : ℕ} → x < 10 → decimal x ≡ (48 + x) ∷ []
-unfolding digit
-number-one {x} h = decimal-one x h
-
-pub number-more : {x : ℕ} → 10 ≤ x → decimal x ≡ decimal (x / 10) ++ ((48 + x % 10) ∷ [])
-unfolding digit
-number-more {x} h = decimal-more x h
-
-pub spaced-append : (a b : List ℕ) → spaced (a ++ b) ≡ spaced a ++ spaced b
-unfolding spaced
-spaced-append [] b = refl
-spaced-append (x ∷ a) b = ap (λ l. 32 ∷ (decimal x ++ l)) (spaced-append a b) ∙ ap (λ l. 32 ∷ l) (sym (append-assoc (decimal x) (spaced a) (spaced b)))
-
--- the next numbers, and what stands behind them
-pub spaced-next : (a b s : List ℕ) → spaced (a ++ b) ++ s ≡ spaced a ++ (spaced b ++ s)
-spaced-next a b s = ap (λ l. l ++ s) (spaced-append a b) ∙ append-assoc (spaced a) (spaced b) s
-
-spaced-drop : (s : List ℕ) (i : ℕ) → i < length s → spaced (drop i s) ≡ spaced (getD s i 0 ∷ []) ++ spaced (drop (i + 1) s)
-spaced-drop s i h =
-    ap spaced (drop-cons s i 0 h) ∙ spaced-append (getD s i 0 ∷ []) (drop (suc i) s)
-    ∙ ap (λ j. spaced (getD s i 0 ∷ []) ++ spaced (drop j s)) (sym (add-one i))
-
-pub spaced-left : (s : List ℕ) (k : ℕ) → 0 < k → k ≤ length s
-    → spaced (drop (length s - k) s) ≡ spaced (getD s (length s - k) 0 ∷ []) ++ spaced (drop (length s - (k - 1)) s)
-spaced-left s k h j =
-    let next : length s - k + 1 ≡ length s - (k - 1) = omega arith in
-    spaced-drop s (length s - k) (omega arith) ∙ ap (λ i. spaced (getD s (length s - k) 0 ∷ []) ++ spaced (drop i s)) next

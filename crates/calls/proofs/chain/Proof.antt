@@ -2,17 +2,18 @@
 -- record are put to the front of their buffers. Assumes nothing.
 use mathlib.Core.Path.{_≡_, sym, _∙_}
 use mathlib.Core.Option.{none}
-use Prim.Native.Nat.{_+_, _*_, _≤_}
+use Prim.Native.Nat.{_+_, _≤_}
 use native.Mathlib.Omega.{arith}
 use borrow.Author.Needs.{needs}
 use lib.ListN.{length, length-take}
 use lib.Seq.{length-take-le}
 use Rattle.meaning.specs.Refusal.{chainRefusal}
 use Rattle.meaning.proofs.Refusal.{chain-sound}
+use Rattle.meaning.proofs.Called.{refused-by, given-by}
 use Rattle.meaning.specs.Bounds.{widest, coefficients}
 use Rattle.meaning.specs.Chain.{stageRoom}
 use Rattle.refusals.proofs.Laws.{some-number, none-number}
-use Rattle.calls.proofs.Laws.{refused-by, given-by, chain-written}
+use Rattle.calls.proofs.Laws.{chain-written}
 use Rattle.calls.proofs.chain.Statement.{statement}
 use Rattle.calls.proofs.chain.Tie as tie
 
@@ -47,7 +48,7 @@ link-requires c κs =
 -- the coefficients, the record and the buffers have their places
 room : (c : tie.After-link) → let x = start (c .before) .args in
     (x .n + 1 ≤ coefficients) × (x .n + 1 ≤ length (c .link .result .product .c)) × (x .n + 1 ≤ length (x .product .now))
-    × (2 * x .n ≤ length (c .link .result .«record»)) × (2 * x .n ≤ length (x .stages .now))
+    × (stageRoom (x .n) ≤ length (c .link .result .«record»)) × (stageRoom (x .n) ≤ length (x .stages .now))
 room c =
     let S = chain-sound _ _ _ _ _ _ (taken (c .before)) in
     let most = S .0 .size in
@@ -89,27 +90,8 @@ returns-2 c =
     let P = c .before .before in
     let Q = P .before .before .before .before .before in
     let R = Q .before .before .before .before .before .before in
-    let x = start (R .before) .args in
-    let G = R .link .ensures in
-    given-by
-    (taken (R .before))
-    (chain-written
-    (x .n)
-    (x .m .now)
-    (x .cs .now)
-    (R .link .result .product .c)
-    (G .stages)
-    (x .product .now, x .stages .now)
-    (G .product .good .prime)
-    (chain-sound _ _ _ _ _ _ (taken (R .before)) .0 .size)
-    (G .chain)
-    (G .number)
-    (G .product .value)
-    (G .product .good .small)
-    (room R .1)
-    (Q .put .ensures)
-    (G .record-bytes)
-    (P .put2 .ensures))
+    let C = taken (R .before) in
+    given-by C (chain-written (R .link .ensures) (chain-sound _ _ _ _ _ _ C .0 .size) (Q .put .ensures) (P .put2 .ensures))
 
 pub chain-spec : {M : Type 1} → statement M
 chain-spec =

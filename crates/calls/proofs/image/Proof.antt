@@ -8,10 +8,12 @@ use borrow.Author.Needs.{needs}
 use lib.ListN.{length}
 use lib.Seq.{length-take-le}
 use Rattle.meaning.specs.Refusal.{imageRefusal}
+use Rattle.meaning.proofs.Bytes.{bytes-length}
 use Rattle.meaning.proofs.Refusal.{image-sound}
+use Rattle.meaning.proofs.Called.{refused-by, given-by}
+use Rattle.meaning.proofs.Written.{front-write}
 use Rattle.meaning.specs.Bounds.{widest}
 use Rattle.refusals.proofs.Laws.{some-number, none-number}
-use Rattle.calls.proofs.Laws.{refused-by, given-by, image-written}
 use Rattle.calls.proofs.image.Statement.{statement}
 use Rattle.calls.proofs.image.Tie as tie
 
@@ -61,18 +63,7 @@ same-length-2 c = search needs
 returns-2 : tie.Need-returns-2
 returns-2 c =
     let C = c .before .before .before .before in
-    let x = start C .args in
-    given-by
-    (taken C)
-    (image-written
-    (x .p)
-    (x .n)
-    (x .m .now)
-    (x .v .now)
-    (x .f .now)
-    (x .out .now)
-    (image-sound _ _ _ _ _ _ (taken C) .1)
-    (c .before .before .image .ensures))
+    given-by (taken C) (front-write _ (rw (image-sound _ _ _ _ _ _ (taken C) .1) at (c .before .before .image .ensures)) (bytes-length _ _))
 
 pub image-spec : {M : Type 1} → statement M
 image-spec =

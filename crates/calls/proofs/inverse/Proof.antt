@@ -6,7 +6,7 @@ use borrow.Author.Needs.{needs}
 use Rattle.meaning.specs.Refusal.{inverseRefusal}
 use Rattle.meaning.proofs.Refusal.{inverse-sound}
 use Rattle.refusals.proofs.Laws.{some-number, none-number}
-use Rattle.calls.proofs.Laws.{refused-by, given-by}
+use Rattle.meaning.proofs.Called.{refused-by, given-by}
 use Rattle.calls.proofs.inverse.Statement.{statement}
 use Rattle.calls.proofs.inverse.Tie as tie
 

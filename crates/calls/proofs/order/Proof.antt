@@ -9,10 +9,11 @@ use lib.ListN.{length, replicate, length-take}
 use lib.Seq.{length-take-le}
 use Rattle.meaning.specs.Refusal.{orderRefusal}
 use Rattle.meaning.proofs.Refusal.{order-sound}
+use Rattle.meaning.proofs.Called.{refused-by, given-by}
 use Rattle.meaning.specs.Bounds.{widest, coefficients}
 use Rattle.spin.proofs.Laws.{before-empty, spinned-order}
 use Rattle.refusals.proofs.Laws.{some-number, none-number}
-use Rattle.calls.proofs.Laws.{refused-by, given-by, order-written}
+use Rattle.calls.proofs.Laws.{order-written}
 use Rattle.calls.proofs.order.Statement.{statement}
 use Rattle.calls.proofs.order.Tie as tie
 
@@ -72,20 +73,8 @@ returns-2 : tie.Need-returns-2
 returns-2 c =
     let P = c .before .before .before .before .before .before .before in
     let C = P .before .before in
-    let x = start C .args in
-    given-by
-    (taken C)
-    (order-written
-    (x .p)
-    (x .n)
-    (x .m .now)
-    (x .v .now)
-    (P .spin .result .c)
-    (x .out .now)
-    (spinned-order (P .spin .ensures))
-    (P .spin .ensures .good .small)
-    (room P .1)
-    (c .before .before .put .ensures))
+    let S = P .spin .ensures in
+    given-by (taken C) (order-written (spinned-order S) (S .good) (order-sound _ _ _ _ _ (taken C) .0 .size) (c .before .before .put .ensures))
 
 pub order-spec : {M : Type 1} → statement M
 order-spec =

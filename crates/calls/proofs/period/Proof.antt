@@ -8,7 +8,7 @@ use Rattle.meaning.specs.Refusal.{periodRefusal}
 use Rattle.meaning.proofs.Refusal.{period-sound}
 use Rattle.period.specs.Returning.{returnsOf}
 use Rattle.refusals.proofs.Laws.{some-number, none-number}
-use Rattle.calls.proofs.Laws.{refused-by, given-by}
+use Rattle.meaning.proofs.Called.{refused-by, given-by}
 use Rattle.calls.proofs.period.Statement.{statement}
 use Rattle.calls.proofs.period.Tie as tie
 

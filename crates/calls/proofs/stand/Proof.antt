@@ -1,8 +1,8 @@
 -- `calls::stand` meets its contract: where the refusal is none, the inputs are sound; the rows taken and their lcm come from `taken`, its test from
 -- `witness`, and the polynomial and the witness's image are put to the front of their buffers. Assumes nothing.
-use mathlib.Core.Path.{_≡_, refl, sym, _∙_}
+use mathlib.Core.Path.{_≡_, sym, ap₂, _∙_}
 use mathlib.Core.Option.{none}
-use Prim.Native.Nat.{ℕ, _+_, _≤_}
+use Prim.Native.Nat.{_+_, _≤_}
 use native.Mathlib.Omega.{arith}
 use borrow.Author.Needs.{needs}
 use lib.ListN.{length, take, length-take}
@@ -10,15 +10,17 @@ use lib.Seq.{length-take-le}
 use Rattle.meaning.specs.Bytes.{times, rows}
 use Rattle.meaning.specs.Bounds.{widest, coefficients}
 use Rattle.meaning.specs.Refusal.{standRefusal}
-use Rattle.meaning.specs.Stand.{Standing, proved, short, standingOf}
+use Rattle.meaning.specs.Stand.{standingOf}
 use Rattle.meaning.specs.Calls.{StandResult}
 use Rattle.meaning.proofs.Bytes.{rows-below}
 use Rattle.meaning.proofs.Degrees.{below-take}
 use Rattle.meaning.proofs.Refusal.{stand-sound}
+use Rattle.meaning.proofs.Called.{refused-by, given-by}
+use Rattle.meaning.proofs.Standing.{tested-within, standing-proved, standing-short}
 use Rattle.poly.specs.Polynomial.{po}
 use Rattle.witness.specs.Killing.{Killing}
 use Rattle.refusals.proofs.Laws.{some-number, none-number}
-use Rattle.calls.proofs.Laws.{refused-by, given-by, tested-within, standing-proved, standing-short, outcomeOf, stand-written}
+use Rattle.calls.proofs.Laws.{outcomeOf, stand-written, stand-as}
 use Rattle.calls.proofs.stand.Statement.{statement}
 use Rattle.calls.proofs.stand.Tie as tie
 
@@ -141,29 +143,26 @@ passed : (c : tie.After-put2) →
     standRefusal (x .p) (x .n) (x .m .now) (x .cs .now) (x .poly .now) (x .image .now) ≡ none
 passed c = taken (passed-on (gathered (witnessed c)))
 
--- what is given, with the standing and the witness as the answer names them
-written : (c : tie.After-put2) (s : Standing) (w : ℕ) →
+-- what is given, with the standing and the witness as they were found
+written : (c : tie.After-put2) →
     let Q = c .before .before .before .before .before in
     let W = witnessed c in
     let T = gathered W in
     let x = start (passed-on T) .args in
-    let g = T .take-rows .result in
-    standingOf (W .witness .result) ≡ s → W .witness .result ≡ w
-    → StandResult (x .p) (x .n) (x .m .now) (x .cs .now) (x .allowance) (x .poly .now, x .image .now) (outcomeOf g s w)
-    (Q .put .last .1 .0, c .put2 .last .1 .0)
-written c s w e k =
+    StandResult (x .p) (x .n) (x .m .now) (x .cs .now) (x .allowance) (x .poly .now, x .image .now)
+    (outcomeOf (T .take-rows .result) (standingOf (W .witness .result)) (W .witness .result)) (Q .put .last .1 .0, c .put2 .last .1 .0)
+written c =
     let Q = c .before .before .before .before .before in
-    let R = Q .before .before .before .before in
     let W = witnessed c in
-    let T = gathered W in
-    let x = start (passed-on T) .args in
-    stand-written (W .witness .result) (x .poly .now, x .image .now) (T .take-rows .ensures .0) (W .witness .ensures) e k (room R .0)
-    (Q .put .ensures) (R .witness-row .ensures) (c .put2 .ensures)
+    stand-written (gathered W .take-rows .ensures .0) (W .witness .ensures) (stand-sound _ _ _ _ _ _ (passed c) .0 .size) (Q .put .ensures)
+    (Q .before .before .before .before .witness-row .ensures) (c .put2 .ensures)
 
 returns-2 : tie.Need-returns-2
 returns-2 c =
     let P = c .before .before .before in
-    given-by (passed P) (written P proved 0 (standing-proved _ (omega arith)) (omega arith))
+    let none-found : witnessed P .witness .result ≡ 0 = omega arith in
+    let g = gathered (witnessed P) .take-rows .result in
+    given-by (passed P) (stand-as (ap₂ (outcomeOf g) (standing-proved _ none-found) none-found) (written P))
 
 same-length-5 : tie.Need-same-length-5
 same-length-5 c = search needs
@@ -174,7 +173,8 @@ same-length-6 c = search needs
 returns-3 : tie.Need-returns-3
 returns-3 c =
     let P = c .before .before .before in
-    given-by (passed P) (written P short _ (standing-short _ (omega arith)) refl)
+    let found : ¬ (witnessed P .witness .result ≡ 0) = omega arith in
+    given-by (passed P) (rw (standing-short _ found) at (written P))
 
 pub stand-spec : {M : Type 1} → statement M
 stand-spec =

@@ -1,7 +1,7 @@
 -- `reader::step_at` meets its contract. The first scan gives the state at the offset, or the place in front of it; the second goes over the record that begins
 -- there, or stops at the place; where none begins, a scan of the rest finds the place.
 -- Assumes nothing.
-use mathlib.Core.Path.{sym, subst}
+use mathlib.Core.Path.{sym, subst, _∙_}
 use borrow.Author.Needs.{needs}
 use Rattle.scan.proofs.Place.{scans-start, scan-to}
 use Rattle.scan.proofs.Tags.{tag-not-over}
@@ -42,13 +42,13 @@ enum-known-step : tie.Need-enum-known-step
 enum-known-step c = search needs
 
 scan-requires-2 : tie.Need-scan-requires-2
-scan-requires-2 c κs = (scan-to (c .before .before .before .before .before .before .scan .ensures) (c .before .before .before .before .before .if1 .left), peek-far _ _ (c .before .before .before .peek .ensures) (c .before .step .given .1))
+scan-requires-2 c κs = (scan-to (c .before .before .before .before .before .before .scan .ensures) (c .before .before .before .before .before .if1 .left), peek-far _ _ (sym (c .before .before .before .peek .ensures) ∙ c .before .step .given .1))
 
 said-requires-4 : tie.Need-said-requires-4
 said-requires-4 c κs = search needs
 
 returns-4 : tie.Need-returns-4
-returns-4 c = subst (StepIs _ _) (sym (c .said4 .ensures)) (step-stops (scan-to (c .before .before .before .before .before .before .before .before .before .scan .ensures) (c .before .before .before .before .before .before .before .before .if1 .left)) (c .before .before .before .before .before .before .before .if2 .left) (c .before .before .before .before .before .before .peek .ensures) (c .before .before .before .before .step .given .1) (c .before .before .scan2 .ensures .stop (c .before .if3 .taken)) (c .before .if3 .taken))
+returns-4 c = subst (StepIs _ _) (sym (c .said4 .ensures)) (step-stops (scan-to (c .before .before .before .before .before .before .before .before .before .scan .ensures) (c .before .before .before .before .before .before .before .before .if1 .left)) (c .before .before .before .before .before .before .before .if2 .left) (sym (c .before .before .before .before .before .before .peek .ensures) ∙ c .before .before .before .before .step .given .1) (c .before .before .scan2 .ensures .stop (c .before .if3 .taken)) (c .before .if3 .taken))
 
 said-requires-5 : tie.Need-said-requires-5
 said-requires-5 c κs = search needs
@@ -63,10 +63,10 @@ said-requires-6 : tie.Need-said-requires-6
 said-requires-6 c κs = search needs
 
 returns-5 : tie.Need-returns-5
-returns-5 c = subst (StepIs _ _) (sym (c .said5 .ensures)) (step-hands (scan-to (c .before .before .before .before .before .before .before .before .before .scan .ensures) (c .before .before .before .before .before .before .before .before .if1 .left)) (c .before .before .before .before .before .before .peek .ensures) (c .before .before .before .before .step .given .1) (scan-to (c .before .before .scan2 .ensures) (c .before .if3 .left)))
+returns-5 c = subst (StepIs _ _) (sym (c .said5 .ensures)) (step-hands (scan-to (c .before .before .before .before .before .before .before .before .before .scan .ensures) (c .before .before .before .before .before .before .before .before .if1 .left)) (sym (c .before .before .before .before .before .before .peek .ensures) ∙ c .before .before .before .before .step .given .1) (scan-to (c .before .before .scan2 .ensures) (c .before .if3 .left)))
 
 returns-6 : tie.Need-returns-6
-returns-6 c = subst (StepIs _ _) (sym (c .said6 .ensures)) (step-nothing (scan-to (c .before .before .before .before .before .before .before .scan .ensures) (c .before .before .before .before .before .before .if1 .left)) (c .before .before .before .before .before .if2 .left) (c .before .before .before .before .peek .ensures) (c .before .before .enum-told2 .given .1) (c .before .place .ensures))
+returns-6 c = subst (StepIs _ _) (sym (c .said6 .ensures)) (step-nothing (scan-to (c .before .before .before .before .before .before .before .scan .ensures) (c .before .before .before .before .before .before .if1 .left)) (c .before .before .before .before .before .if2 .left) (sym (c .before .before .before .before .peek .ensures) ∙ c .before .before .enum-told2 .given .1) (c .before .place .ensures))
 
 pub step-at-spec : {M : Type 1} → statement M
 step-at-spec =

@@ -4,9 +4,9 @@ use Prim.Native.Nat.{_/_, _%_, _≤_}
 use native.Mathlib.Omega.{arith}
 use lib.ListN.{length}
 use borrow.Author.Needs.{needs}
-use Rattle.meaning.proofs.Refusal.{noRows-false, rows-noRows}
+use Rattle.meaning.proofs.Refusal.{noRows-false, rows-noRows, rows-over, rows-whole}
 use Rattle.meaning.specs.Bounds.{mostCandidates}
-use Rattle.refusals.proofs.Laws.{applies, due-here, due-passed, rows-over, rows-whole}
+use Rattle.refusals.proofs.Laws.{applies, due-here, due-passed}
 use Rattle.refusals.proofs.candidates.Statement.{statement}
 use Rattle.refusals.proofs.candidates.Tie as tie
 

@@ -6,7 +6,8 @@ use native.Mathlib.Omega.{arith}
 use borrow.Author.Needs.{needs}
 use Rattle.meaning.specs.Refusal.{noPrime, noSize, noMatrix, first}
 use Rattle.refusals.specs.Numbers.{earlier}
-use Rattle.refusals.proofs.Laws.{first-front, size-told, number-some, some-number, none-number, list-number}
+use Rattle.meaning.proofs.Refusal.{first-front, size-told}
+use Rattle.refusals.proofs.Laws.{number-some, some-number, none-number, list-number}
 use Rattle.refusals.proofs.list.Statement.{statement}
 use Rattle.refusals.proofs.list.Tie as tie
 

@@ -6,7 +6,8 @@ use native.Mathlib.Omega.{arith}
 use borrow.Author.Needs.{needs}
 use Rattle.meaning.specs.Refusal.{noPrime, noSize, noMatrix, first, imageRefusal}
 use Rattle.refusals.specs.Numbers.{earlier}
-use Rattle.refusals.proofs.Laws.{first-front, number-some, some-number, none-number, image-number}
+use Rattle.meaning.proofs.Refusal.{first-front}
+use Rattle.refusals.proofs.Laws.{number-some, some-number, none-number, image-number}
 use Rattle.refusals.proofs.of_image.Statement.{statement}
 use Rattle.refusals.proofs.of_image.Tie as tie
 

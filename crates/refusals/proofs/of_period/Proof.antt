@@ -4,7 +4,8 @@ use native.Mathlib.Omega.{arith}
 use borrow.Author.Needs.{needs}
 use Rattle.meaning.specs.Refusal.{periodRefusal}
 use Rattle.refusals.specs.Numbers.{numberOf}
-use Rattle.refusals.proofs.Laws.{first-front, first-past, number-some, some-number, none-number, number-last}
+use Rattle.meaning.proofs.Refusal.{first-front, first-past}
+use Rattle.refusals.proofs.Laws.{number-some, some-number, none-number, number-last}
 use Rattle.refusals.proofs.of_period.Statement.{statement}
 use Rattle.refusals.proofs.of_period.Tie as tie
 

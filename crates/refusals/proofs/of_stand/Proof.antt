@@ -7,7 +7,8 @@ use native.Mathlib.Omega.{arith}
 use borrow.Author.Needs.{needs}
 use Rattle.meaning.specs.Refusal.{noPrime, noSize, noMatrix, noRows, badEntry, first, standRefusal}
 use Rattle.refusals.specs.Numbers.{earlier}
-use Rattle.refusals.proofs.Laws.{first-front, size-told, number-some, some-number, none-number, buffers-number}
+use Rattle.meaning.proofs.Refusal.{first-front, size-told}
+use Rattle.refusals.proofs.Laws.{number-some, some-number, none-number, buffers-number}
 use Rattle.refusals.proofs.of_stand.Statement.{statement}
 use Rattle.refusals.proofs.of_stand.Tie as tie
 

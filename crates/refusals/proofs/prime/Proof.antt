@@ -1,6 +1,7 @@
 -- `refusals::prime` meets its contract: the code's prime test is that of the refusal table. Assumes nothing.
 use borrow.Author.Needs.{needs}
-use Rattle.refusals.proofs.Laws.{prime-told, due-here, due-passed}
+use Rattle.meaning.proofs.Refusal.{prime-told}
+use Rattle.refusals.proofs.Laws.{due-here, due-passed}
 use Rattle.refusals.proofs.prime.Statement.{statement}
 use Rattle.refusals.proofs.prime.Tie as tie
 

@@ -8,9 +8,9 @@ use native.Mathlib.Nat.{mul-le-mul}
 use native.Mathlib.Omega.{arith}
 use borrow.Author.Needs.{needs}
 use Rattle.meaning.specs.Refusal.{noPrime, noSize, first}
-use Rattle.meaning.proofs.Refusal.{noSize-false, size-noSize, noMatrix-false, matrix-noMatrix}
+use Rattle.meaning.proofs.Refusal.{noSize-false, size-noSize, noMatrix-false, matrix-noMatrix, first-here, first-next, first-end, first-front, first-past}
 use Rattle.meaning.specs.Bounds.{widest}
-use Rattle.refusals.proofs.Laws.{applies, first-here, first-next, first-end, first-front, first-past, number-some, number-none, some-number, none-number, number-last}
+use Rattle.refusals.proofs.Laws.{applies, number-some, number-none, some-number, none-number, number-last}
 use Rattle.refusals.proofs.shape.Statement.{statement}
 use Rattle.refusals.proofs.shape.Tie as tie
 
@@ -41,7 +41,7 @@ mul-if4 : tie.Need-mul-if4
 mul-if4 c =
     let n = c .before .before .before .before .before .args .n in
     let h : n ≤ widest = omega arith in
-    let k : n * n ≤ 4096 = mul-le-mul h h in
+    let k : n * n ≤ widest * widest = mul-le-mul h h in
     omega arith
 
 returns-4 : tie.Need-returns-4

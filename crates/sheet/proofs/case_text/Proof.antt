@@ -1,14 +1,13 @@
 -- `sheet::case_text` meets its contract: no call refuses sound values; what they answer is the sheet (`case-lines`), and its lines are laid down
 -- one after another. Assumes nothing.
 use mathlib.Core.List.{List, _∷_, _++_}
-use Prim.Native.Nat.{ℕ}
 use native.Mathlib.Omega.{arith}
 use Rattle.meaning.specs.Line.{Line, text}
 use Rattle.meaning.specs.Sheet.{fieldLine}
 use Rattle.text.specs.Text.{HasRoom}
 use Rattle.text.proofs.Laws.{Toward, toward-start, toward-last, line-turn, line-room, lines-turn, lines-room, last-room, empty-room, empty-text}
 use Rattle.sheet.specs.Lines.{stoodLines, chainedLines, periodedLines}
-use Rattle.sheet.proofs.Answers.{CaseLines, case-lines}
+use Rattle.sheet.proofs.Answers.{CaseAnswers, CaseLines, case-lines}
 use borrow.Author.Needs.{needs}
 use Rattle.sheet.proofs.case_text.Statement.{statement}
 use Rattle.sheet.proofs.case_text.Tie as tie
@@ -16,37 +15,38 @@ use Rattle.sheet.proofs.case_text.Tie as tie
 abbrev start : tie.After-period → tie.Start
 start c = c .before .before .before .before .before .before .before .before .before .before .before .before .before
 
-abbrev poly : tie.After-period → List ℕ
-poly c = c .before .before .before .before .before .before .before .before .stand .last .1 .1 .1 .1 .1 .0
-
-abbrev image : tie.After-period → List ℕ
-image c = c .before .before .before .before .before .before .before .before .stand .last .1 .1 .1 .1 .1 .1 .0
-
-abbrev product : tie.After-period → List ℕ
-product c = c .before .before .before .chain .last .1 .1 .1 .1 .0
-
-abbrev stages : tie.After-period → List ℕ
-stages c = c .before .before .before .chain .last .1 .1 .1 .1 .1 .0
+abbrev answers : tie.After-period → CaseAnswers
+answers c =
+    let S = c .before .before .before .before .before .before .before .before in
+    let C = c .before .before .before in
+    record {
+      stood = S .stand .result;
+      poly = S .stand .last .1 .1 .1 .1 .1 .0;
+      image = S .stand .last .1 .1 .1 .1 .1 .1 .0;
+      chained = C .chain .result;
+      product = C .chain .last .1 .1 .1 .1 .0;
+      stages = C .chain .last .1 .1 .1 .1 .1 .0;
+      perioded = c .period .result;
+    }
 
 -- the lines: the field's, the stand's, the chain's, the period's
 abbrev field-line : tie.After-period → Line
 field-line c = fieldLine (start c .args .p) (start c .args .n)
 
 abbrev stood-part : tie.After-period → List Line
-stood-part c = stoodLines (start c .args .n) (c .before .before .before .before .before .before .before .before .stand .result) (poly c) (image c)
+stood-part c = stoodLines (start c .args .n) (answers c .stood) (answers c .poly) (answers c .image)
 
 abbrev chained-part : tie.After-period → List Line
-chained-part c = chainedLines (start c .args .n) (c .before .before .before .chain .result) (product c) (stages c)
+chained-part c = chainedLines (start c .args .n) (answers c .chained) (answers c .product) (answers c .stages)
 
 abbrev perioded-part : tie.After-period → List Line
-perioded-part c = periodedLines (c .period .result)
+perioded-part c = periodedLines (answers c .perioded)
 
 abbrev all : tie.After-period → List Line
 all c = field-line c ∷ (stood-part c ++ (chained-part c ++ perioded-part c))
 
 -- they are the sheet's
-known : (c : tie.After-period) → let x = start c .args in
-    CaseLines (x .p) (x .n) (x .m .now) (x .cs .now) (x .allowance) (c .before .before .before .before .before .before .before .before .stand .result) (c .before .before .before .chain .result) (c .period .result) (poly c) (image c) (product c) (stages c)
+known : (c : tie.After-period) → let x = start c .args in CaseLines (x .p) (x .n) (x .m .now) (x .cs .now) (x .allowance) (answers c)
 known c =
     case-lines (start c .pre .0) (start c .pre .1) (omega (arith, start c .fits .allowance)) (c .before .before .before .before .before .before .before .before .stand .ensures) (c .before .before .before .chain .ensures) (c .period .ensures)
 

@@ -13,7 +13,8 @@ use Rattle.meaning.proofs.SheetRoom.{refused-room}
 use Rattle.text.specs.Text.{HasRoom, Appended}
 use Rattle.text.proofs.Laws.{toward-start, toward-end, line-turn, line-room, empty-room, empty-text}
 use Rattle.casefile.specs.Reading.{matrixRoom, candidateRoom}
-use Rattle.sheet.proofs.File.{CaseRead, read-case, read-refused, read-sound, case-file, refused-file}
+use Rattle.casefile.proofs.Results.{read-refused}
+use Rattle.sheet.proofs.File.{CaseRead, read-case, read-sound, case-file, refused-file}
 use borrow.Author.Needs.{needs}
 use Rattle.sheet.proofs.file_text.Statement.{statement}
 use Rattle.sheet.proofs.file_text.Tie as tie

@@ -6,9 +6,9 @@ use native.Mathlib.Omega.{arith}
 use lib.ListN.{length}
 use lib.Seq.{length-take-le}
 use Rattle.text.specs.Text.{printed}
-use Rattle.text.proofs.Laws.{room-bytes}
-use Rattle.calls.proofs.Laws.{refused-by, given-by, front-write}
-use Rattle.sheet.proofs.File.{room-six, room-none}
+use Rattle.meaning.proofs.Called.{refused-by, given-by}
+use Rattle.meaning.proofs.SheetRoom.{room-bytes, room-six, room-none}
+use Rattle.meaning.proofs.Written.{front-write}
 use borrow.Author.Needs.{needs}
 use Rattle.sheet.proofs.sheet.Statement.{statement}
 use Rattle.sheet.proofs.sheet.Tie as tie

@@ -4,8 +4,9 @@ use mathlib.Core.List.{[], _∷_, _++_}
 use borrow.Author.Needs.{needs}
 use Rattle.meaning.specs.Ascii.{ascii}
 use Rattle.meaning.specs.Line.{spaced}
+use Rattle.meaning.proofs.Line.{spaced-next}
 use Rattle.text.specs.Text.{lineOf}
-use Rattle.text.proofs.Laws.{Toward, toward-start, toward-turn, toward-last, toward-room, last-room, spaced-next}
+use Rattle.text.proofs.Laws.{Toward, toward-start, toward-turn, toward-last, toward-room, last-room}
 use Rattle.sheet.proofs.stage_line.Statement.{statement}
 use Rattle.sheet.proofs.stage_line.Tie as tie
 

@@ -4,9 +4,10 @@ use mathlib.Core.Path.{sym, subst}
 use mathlib.Core.List.{[], _∷_}
 use Prim.Native.Nat.{ℕ, _+_, _%_, _<_}
 use native.Mathlib.Omega.{arith}
-use Rattle.meaning.specs.Line.{decimal}
+use Rattle.meaning.specs.Line.{digit, decimal}
+use Rattle.meaning.proofs.Line.{decimal-one, decimal-more}
 use Rattle.text.specs.Text.{HasRoom, Appended}
-use Rattle.text.proofs.Laws.{number-one, number-more, Toward, toward-start, toward-turn, toward-last, toward-room, last-room}
+use Rattle.text.proofs.Laws.{Toward, toward-start, toward-turn, toward-last, toward-room, last-room}
 use borrow.Fn.Kinds.{In}
 use borrow.Fn.PlainCycle.{Measures, is, falls, and}
 use Rattle.text.proofs.number.Reads as number
@@ -27,11 +28,13 @@ number-below t = and 0 number-kinds.ps (falls 0 number-kinds.ps _<_ μ-number t)
 
 -- what is printed: one digit, or the tenth and the last digit
 one-digit : (t : ℕ) (c : number-lts.After-byte (byte-reads.Asked, byte-reads.Learnt, number-below t, number.Post) (number-at t) number.Post) → let x = c .before .before .args in Appended (x .t) (c .byte .result) (decimal (x .x))
-one-digit t c = let x = c .before .before .args in subst (λ s. Appended (x .t) (c .byte .result) s) (sym (number-one (omega arith))) (c .byte .ensures)
+unfolding digit
+one-digit t c = let x = c .before .before .args in subst (λ s. Appended (x .t) (c .byte .result) s) (sym (decimal-one (x .x) (omega arith))) (c .byte .ensures)
 
 tenth : (t : ℕ) (c : number-lts.After-number (byte-reads.Asked, byte-reads.Learnt, number-below t, number.Post) (number-at t) number.Post) → let x = c .before .before .args in
     Toward (x .t) (decimal (x .x)) (c .number .result) ((48 + x .x % 10) ∷ [])
-tenth t c = toward-turn (toward-start _ _) (number-more (omega arith)) (c .number .ensures)
+unfolding digit
+tenth t c = toward-turn (toward-start _ _) (decimal-more (c .before .before .args .x) (omega arith)) (c .number .ensures)
 
 digits-laid : (t : ℕ) (c : number-lts.After-byte2 (byte-reads.Asked, byte-reads.Learnt, number-below t, number.Post) (number-at t) number.Post) → let x = c .before .before .before .args in Appended (x .t) (c .byte2 .result) (decimal (x .x))
 digits-laid t c = toward-last (tenth t (c .before)) (c .byte2 .ensures)
@@ -43,13 +46,14 @@ number-add-byte : (t : ℕ) → number-lts.Need-add-byte (byte-reads.Asked, byte
 number-add-byte t c = omega arith
 
 number-byte-requires : (t : ℕ) → number-lts.Need-byte-requires (byte-reads.Asked, byte-reads.Learnt, number-below t, number.Post) (number-at t) number.Post
-number-byte-requires t c κs = let x = c .before .args in subst (λ s. HasRoom (x .t) s) (number-one (omega arith)) (c .before .pre .1)
+unfolding digit
+number-byte-requires t c κs = let x = c .before .args in subst (λ s. HasRoom (x .t) s) (decimal-one (x .x) (omega arith)) (c .before .pre .1)
 
 number-returns : (t : ℕ) → number-lts.Need-returns (byte-reads.Asked, byte-reads.Learnt, number-below t, number.Post) (number-at t) number.Post
 number-returns t c = one-digit t c
 
 number-number-requires : (t : ℕ) → number-lts.Need-number-requires (byte-reads.Asked, byte-reads.Learnt, number-below t, number.Post) (number-at t) number.Post
-number-number-requires t c κs = let x = c .before .args in (omega (arith, c .before .pre .0), toward-room (c .before .pre .1) (toward-start (x .t) _) _ (number-more (omega arith)))
+number-number-requires t c κs = let x = c .before .args in (omega (arith, c .before .pre .0), toward-room (c .before .pre .1) (toward-start (x .t) _) _ (decimal-more (x .x) (omega arith)))
 
 number-cast-byte-2 : (t : ℕ) → number-lts.Need-cast-byte-2 (byte-reads.Asked, byte-reads.Learnt, number-below t, number.Post) (number-at t) number.Post
 number-cast-byte-2 t c = omega arith

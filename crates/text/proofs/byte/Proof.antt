@@ -3,7 +3,8 @@ use mathlib.Core.Path.{_≡_, refl}
 use native.Mathlib.Omega.{arith}
 use borrow.Author.Needs.{needs}
 use lib.ListN.{length}
-use Rattle.text.proofs.Laws.{room-bytes, byte-appended}
+use Rattle.meaning.proofs.SheetRoom.{room-bytes}
+use Rattle.text.proofs.Laws.{byte-appended}
 use Rattle.text.proofs.byte.Statement.{statement}
 use Rattle.text.proofs.byte.Tie as tie
 

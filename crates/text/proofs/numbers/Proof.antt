@@ -6,7 +6,8 @@ use native.Mathlib.Nat.{sub-self}
 use native.Mathlib.Omega.{arith}
 use lib.ListN.{length, drop, drop-of-length-le}
 use Rattle.meaning.specs.Line.{spaced}
-use Rattle.text.proofs.Laws.{Toward, toward-start, toward-turn, toward-end, toward-room, spaced-left}
+use Rattle.meaning.proofs.Line.{spaced-left}
+use Rattle.text.proofs.Laws.{Toward, toward-start, toward-turn, toward-end, toward-room}
 use Rattle.text.proofs.numbers.Statement.{statement}
 use Rattle.text.proofs.numbers.Tie as tie
 

@@ -2,8 +2,9 @@
 use mathlib.Core.Path.{refl}
 use mathlib.Core.List.{[], _∷_, _++_}
 use Rattle.meaning.specs.Line.{spaced}
+use Rattle.meaning.proofs.Line.{spaced-next}
 use Rattle.text.specs.Text.{lineOf}
-use Rattle.text.proofs.Laws.{Toward, toward-start, toward-turn, toward-end, toward-room, spaced-next}
+use Rattle.text.proofs.Laws.{Toward, toward-start, toward-turn, toward-end, toward-room}
 use Rattle.text.proofs.pair_line.Statement.{statement}
 use Rattle.text.proofs.pair_line.Tie as tie
 

@@ -6,7 +6,9 @@ use native.Mathlib.Omega.{arith}
 use borrow.Author.Needs.{needs}
 use lib.ListN.{length}
 use lib.Seq.{paste, paste-zero}
-use Rattle.text.proofs.Laws.{room-bytes, paste-more, word-appended}
+use Rattle.meaning.proofs.SheetRoom.{room-bytes}
+use Rattle.meaning.proofs.Written.{paste-more}
+use Rattle.text.proofs.Laws.{word-appended}
 use Rattle.text.proofs.word.Statement.{statement}
 use Rattle.text.proofs.word.Tie as tie
 
