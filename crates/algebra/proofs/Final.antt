@@ -52,12 +52,12 @@ same-self : {p : ℕ} (X Y : S p → S p) {W : S p → Type 0} → Space X W →
 same-self X Y Z D f v = same-act X Y Z D f v v (rw +ᵥ-neg (Z .zero-in))
 
 -- 4.3: the order of the class v + W under the induced action is the monic polynomial of least degree with v·f(M) in W
-pub relative-to : {p : ℕ} (X Y : S p → S p) {W : S p → Type 0} → Space X W → Induces W X Y → (v : S p) (f : Poly p)
+relative-to : {p : ℕ} (X Y : S p → S p) {W : S p → Type 0} → Space X W → Induces W X Y → (v : S p) (f : Poly p)
     → Same W (act Y f v) 0ᵥ → W (act X f v)
 relative-to X Y {W} Z D v f h =
     subst W (difference-twice _ _) (Z .plus-in _ _ (simp (·ᵥ-0ᵥ, +ᵥ-0ᵥ) at h) (Z .scale-in (neg 𝟙) _ (same-self X Y Z D f v)))
 
-pub relative-from : {p : ℕ} (X Y : S p → S p) {W : S p → Type 0} → Space X W → Induces W X Y → (v : S p) (f : Poly p)
+relative-from : {p : ℕ} (X Y : S p → S p) {W : S p → Type 0} → Space X W → Induces W X Y → (v : S p) (f : Poly p)
     → W (act X f v) → Same W (act Y f v) 0ᵥ
 relative-from X Y {W} Z D v f h = simp (·ᵥ-0ᵥ, +ᵥ-0ᵥ) (subst W (+ᵥ-difference _ _) (Z .plus-in _ _ h (same-self X Y Z D f v)))
 

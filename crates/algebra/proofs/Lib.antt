@@ -4,6 +4,7 @@ pub mod Act
 pub mod Poly
 pub mod Gcd
 pub mod Orders
+pub mod Alike
 pub mod Echelon
 pub mod Keeping
 pub mod Spin

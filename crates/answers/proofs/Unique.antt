@@ -1,12 +1,12 @@
 -- One result for every input, of the code's own answers: an answer is known by what 01 calls it, so any two that a call's contract permits are the
 -- same, and so are the bytes that it leaves in the lent buffers.
---   refused-only, given-only, refused-given   a refusal is known by its number, a result by what is given, and none is the other
+--   refused-only, given-only   a refusal is known by its number, a result by what is given
 --   counts-path, given-counts   what a stand counts is known by its fields, also where it is given with a standing and a witness
 --   proved-short   the two standings differ
 --   inverted-only, ordered-only, imaged-only, stood-only, chained-only, perioded-only   answers with the same number or values are the same
 --   inverse-once, order-once, image-once, stand-once, chain-once, period-once   any two permitted answers and buffer contents are the same
 -- Assumes nothing.
-use mathlib.Core.Path.{_≡_, refl, sym, ap, ap₂, _∙_}
+use mathlib.Core.Path.{_≡_, refl, sym, ap, ap₂}
 use mathlib.Core.List.{List}
 use mathlib.Core.Option.{Option, none, some, Option·none-ne-some, Option·some-injective}
 use Prim.Native.Nat.{ℕ}

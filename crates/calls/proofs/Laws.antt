@@ -15,7 +15,7 @@ use lib.ListN.{take}
 use Rattle.algebra.specs.Poly.{coef}
 use Rattle.algebra.specs.Orders.{polys}
 use Rattle.algebra.proofs.Poly.{least-same}
-use Rattle.algebra.proofs.Orders.{multiples-kill, kills-multiples}
+use Rattle.algebra.proofs.Orders.{multiples-kill, kills-multiples, orders-take}
 use Rattle.meaning.specs.Bytes.{row, rows, times, bytes, write}
 use Rattle.meaning.specs.Bounds.{widest}
 use Rattle.meaning.specs.Polynomial.{IsOrder, IsLcm}
@@ -24,7 +24,7 @@ use Rattle.meaning.specs.Chain.{stageBytes, stageRoom}
 use Rattle.meaning.specs.Calls.{OrderResult, StandResult, ChainResult}
 use Rattle.meaning.proofs.Bytes.{times-linear}
 use Rattle.meaning.proofs.Unique.{least-lcm}
-use Rattle.meaning.proofs.Degrees.{orders-take, chain-record}
+use Rattle.meaning.proofs.Degrees.{chain-record}
 use Rattle.meaning.proofs.Written.{coefficient-bytes, padded-front}
 use Rattle.poly.specs.declared.Polynomial.{Polynomial}
 use Rattle.poly.specs.Polynomial.{po, Good}

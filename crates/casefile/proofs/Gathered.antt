@@ -18,7 +18,7 @@ use Rattle.meaning.proofs.Case.{flatten-length, rowsOf-split}
 use Rattle.meaning.specs.Bounds.{widest}
 use Rattle.casefile.specs.Gathered.{noValues, noted, notedAll, gathered, Behind, RoomFor}
 
-pub notedAll-append : (g : Case) (xs ys : List Record) → notedAll g (xs ++ ys) ≡ notedAll (notedAll g xs) ys
+notedAll-append : (g : Case) (xs ys : List Record) → notedAll g (xs ++ ys) ≡ notedAll (notedAll g xs) ys
 unfolding notedAll
 notedAll-append g [] ys = refl
 notedAll-append g (x ∷ xs) ys = notedAll-append (noted g x) xs ys

@@ -17,7 +17,7 @@ use lib.Seq.{paste, paste-zero}
 use types.Run.{OneOf, miss}
 use denote.Enum.Declared.{tagOf}
 use Rattle.meaning.specs.Bytes.{padded}
-use Rattle.meaning.specs.Bounds.{mostCandidates, widest}
+use Rattle.meaning.specs.Bounds.{mostCandidates, widest, matrixRoom, candidateRoom}
 use Rattle.meaning.specs.Case.{Record, matrixBytes, candidateBytes, radix}
 use Rattle.meaning.specs.Case.Record.{row, candidate, end}
 use Rattle.meaning.proofs.Written.{padded-paste, paste-more}
@@ -26,7 +26,6 @@ use Rattle.reader.specs.declared.Step.the-variants as step
 use Rattle.reader.specs.declared.Stepped.{Stepped}
 use Rattle.casefile.specs.declared.Numbers.{Numbers}
 use Rattle.reader.specs.Step.{entriesIn, recordWith}
-use Rattle.casefile.specs.Reading.{matrixRoom, candidateRoom}
 use Rattle.casefile.specs.Gathered.{noted, Stored, Behind, RoomFor, Noting, Noted}
 use Rattle.reader.proofs.Step.{the-type}
 

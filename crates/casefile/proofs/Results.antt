@@ -12,19 +12,19 @@ use Prim.Native.Nat.{ℕ, _*_, _≤_}
 use native.Mathlib.Nat.{mul-le-mul}
 use lib.ListN.{length}
 use Rattle.meaning.specs.Bytes.{padded}
-use Rattle.meaning.specs.Bounds.{mostCandidates, widest}
+use Rattle.meaning.specs.Bounds.{mostCandidates, widest, matrixRoom, candidateRoom}
 use Rattle.meaning.specs.Case.{Case, IsCase, Place, allowanceOf, matrixBytes, candidateBytes}
 use Rattle.meaning.proofs.CaseBytes.{case-unique}
 use Rattle.meaning.proofs.Place.{place-unique}
 use Rattle.casefile.specs.declared.Reading.{Reading}
 use Rattle.casefile.specs.declared.Reading.the-variants as answer
 use Rattle.casefile.specs.declared.Contents.{Contents}
-use Rattle.casefile.specs.Reading.{matrixRoom, candidateRoom, valuesOf, readRefusal, ReadIs, HandedOut}
+use Rattle.casefile.specs.Reading.{valuesOf, readRefusal, ReadIs, HandedOut}
 use Rattle.casefile.specs.Reading.ReadIs.{reads, refuses}
 use Rattle.casefile.specs.Reading.HandedOut.{whole, stopped}
 use Rattle.reader.proofs.Steps.{steps-case, steps-refused}
 
-pub read-within : {s : List ℕ} {r : Contents} {p n a k : ℕ} → ReadIs s r → r .answer ≡ answer.Case p n a k → (n ≤ widest) × (k ≤ mostCandidates)
+read-within : {s : List ℕ} {r : Contents} {p n a k : ℕ} → ReadIs s r → r .answer ≡ answer.Case p n a k → (n ≤ widest) × (k ≤ mostCandidates)
 read-within (reads c W v x y) e =
     let q = Option·some-injective _ _ (sym v ∙ ap valuesOf e) in
     (subst (λ i. i ≤ widest) (ap (λ t. t .1) q) (W .well-formed .most), subst (λ i. i ≤ mostCandidates) (ap (λ t. t .3) q) (W .well-formed .few))

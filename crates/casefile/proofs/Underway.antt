@@ -18,6 +18,7 @@ use denote.Enum.Declared.{tagOf}
 use Rattle.meaning.specs.Case.{Record, recordBytes, Case, defaultAllowance}
 use Rattle.meaning.proofs.Flat.{record-long}
 use Rattle.meaning.proofs.Written.{zeros-padded}
+use Rattle.meaning.specs.Bounds.{matrixRoom, candidateRoom}
 use Rattle.reader.specs.declared.Step.{Step}
 use Rattle.reader.specs.declared.Step.the-variants as step
 use Rattle.reader.specs.declared.Stepped.{Stepped}
@@ -27,7 +28,7 @@ use Rattle.reader.specs.Step.{entriesIn, recordWith, recordOf, refusalOf, NextR
 use Rattle.reader.specs.Step.StepIs.{hands, over, refuses}
 use Rattle.reader.specs.Step.Handed.{at-front, more}
 use Rattle.casefile.specs.Gathered.{gathered, notedAll, Stored, Noting, Noted}
-use Rattle.casefile.specs.Reading.{matrixRoom, candidateRoom, ReadIs}
+use Rattle.casefile.specs.Reading.{ReadIs}
 use Rattle.casefile.specs.Reading.ReadIs.{reads, refuses as no-case}
 use Rattle.reader.proofs.Step.{the-type}
 use Rattle.reader.proofs.Stepping.{next-within, step-refused}

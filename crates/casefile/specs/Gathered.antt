@@ -15,13 +15,12 @@ use mathlib.Core.Option.{none, some}
 use Prim.Native.Nat.{ℕ, _+_, _*_, _<_, _≤_}
 use lib.ListN.{length}
 use Rattle.meaning.specs.Bytes.{padded}
-use Rattle.meaning.specs.Bounds.{mostCandidates, widest}
+use Rattle.meaning.specs.Bounds.{mostCandidates, widest, matrixRoom, candidateRoom}
 use Rattle.meaning.specs.Case.{Record, Case, allowanceOf, matrixBytes, candidateBytes}
 use Rattle.meaning.specs.Case.Record.{field, allow, row, candidate, end}
 use Rattle.reader.specs.declared.Stepped.{Stepped}
 use Rattle.casefile.specs.declared.Numbers.{Numbers}
 use Rattle.reader.specs.Step.{recordOf}
-use Rattle.casefile.specs.Reading.{matrixRoom, candidateRoom}
 
 abbrev pub noValues : Case
 noValues = record { p = 0; n = 0; allowance = none; matrix = []; candidates = [] }

@@ -1,5 +1,4 @@
 -- What reading a whole file gives (01, "Case file, house layout").
---   matrixRoom, candidateRoom   bytes enough for the matrix of any case, and for its candidates
 --   valuesOf a    p, n, the allowance and the number of candidates that the answer a gives
 --   readRefusal a   01's number and the place that the answer a gives
 --   ReadIs s r    the contents r of the file s: the values of the case, its matrix and its candidates row after row with zeros behind them; or
@@ -10,22 +9,16 @@
 use mathlib.Core.Path.{_≡_}
 use mathlib.Core.List.{List}
 use mathlib.Core.Option.{Option, none, some}
-use Prim.Native.Nat.{ℕ, _*_}
+use Prim.Native.Nat.{ℕ}
 use lib.ListN.{length, replicate}
 use Rattle.meaning.specs.Bytes.{padded}
-use Rattle.meaning.specs.Bounds.{mostCandidates, widest}
+use Rattle.meaning.specs.Bounds.{matrixRoom, candidateRoom}
 use Rattle.meaning.specs.Case.{Case, records, IsCase, allowanceOf, matrixBytes, candidateBytes, Place}
 use Rattle.reader.specs.declared.Step.the-variants.{Over}
 use Rattle.reader.specs.Step.{Ends, Stops}
 use Rattle.casefile.specs.declared.Reading.{Reading}
 use Rattle.casefile.specs.declared.Reading.the-variants as answer
 use Rattle.casefile.specs.declared.Contents.{Contents}
-
-abbrev pub matrixRoom : ℕ
-matrixRoom = widest * widest
-
-abbrev pub candidateRoom : ℕ
-candidateRoom = mostCandidates * widest
 
 abbrev pub valuesOf : Reading → Option (ℕ × ℕ × ℕ × ℕ)
 valuesOf (answer.Case p n allowance count) = some (p, n, allowance, count)

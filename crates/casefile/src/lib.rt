@@ -5,17 +5,11 @@ ghost use lib.ListN.{length};
 ghost use lib.Seq.{paste};
 ghost use Rattle.casefile.specs.Gathered.{Noting, Noted};
 ghost use Rattle.casefile.specs.Reading.{ReadIs};
-use meaning::MOST_CANDIDATES;
+use meaning::CANDIDATE_ROOM;
+use meaning::MATRIX_ROOM;
 use meaning::RADIX;
-use meaning::WIDEST;
 use reader::Step;
 use reader::Stepped;
-
-// Bytes enough for the matrix of any case.
-const MATRIX_ROOM: usize = WIDEST * WIDEST;
-
-// Bytes enough for the candidates of any case.
-const CANDIDATE_ROOM: usize = MOST_CANDIDATES * WIDEST;
 
 // The allowance without an A record.
 const DEFAULT_ALLOWANCE: u32 = 8192;

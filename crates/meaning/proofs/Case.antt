@@ -21,7 +21,7 @@ flatten-length p n (x ∷ xs) r =
     let i = flatten-length p n xs (r .1) in
     length-append x (flatten xs) ∙ (omega (arith, r .0 .0, suc-mul (length xs) n))
 
-pub flatten-small : (p n : ℕ) (xs : List (List ℕ)) → RowsOf p n xs → Small p (flatten xs)
+flatten-small : (p n : ℕ) (xs : List (List ℕ)) → RowsOf p n xs → Small p (flatten xs)
 unfolding flatten
 flatten-small p n [] r = tt
 flatten-small p n (x ∷ xs) r = small-append p x (flatten xs) (r .0 .1) (flatten-small p n xs (r .1))

@@ -56,7 +56,7 @@ parts-length p n a xs ys r t =
     (flat-length (map row xs) ends
     ∙ ap₂ _+_ (row-flat-length p n xs r) (flat-length (map candidate ys) (end ∷ []) ∙ ap (λ k. k + 2) (candidate-flat-length p n ys t))))
 
-pub case-length : {s : List ℕ} {c : Case} → IsCase s c
+case-length : {s : List ℕ} {c : Case} → IsCase s c
     → length s ≡ 4 + (length (flat (allowRecord (c .allowance))) + (c .n * (c .n + 2) + (length (c .candidates) * (c .n + 2) + 2)))
 unfolding caseBytes records
 case-length {s} {c} i =

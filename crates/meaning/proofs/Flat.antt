@@ -3,8 +3,7 @@
 --   flat-append, flat-length   those of two lists of records, and their number
 --   flat-one         those of records and one more
 --   front-whole      records that begin others and fill as many bytes are all of them
---   BeginsWith s xs  the first bytes of s are those of the records xs
---   front-shorter    and those of fewer
+--   front-shorter    what begins with records begins with the first of them
 --   case-front       a case begins with its first records
 -- Assumes nothing.
 use mathlib.Core.Path.{_≡_, refl, sym, ap, _∙_}
@@ -13,7 +12,7 @@ use Prim.Native.Nat.{ℕ, _+_, _≤_}
 use native.Mathlib.Omega.{arith}
 use lib.ListN.{length, take, length-append}
 use lib.Seq.{take-take, take-at}
-use Rattle.meaning.specs.Case.{Record, recordBytes, flat, Case, records, caseBytes, IsCase}
+use Rattle.meaning.specs.Case.{Record, recordBytes, flat, BeginsWith, Case, records, caseBytes, IsCase}
 use Rattle.meaning.specs.Case.Record.{field, allow, row, candidate, end}
 
 pub record-long : (x : Record) → 2 ≤ length (recordBytes x)
@@ -24,7 +23,7 @@ record-long (row l) = omega arith
 record-long (candidate l) = omega arith
 record-long end = omega arith
 
-pub flat-append : (xs ys : List Record) → flat (xs ++ ys) ≡ flat xs ++ flat ys
+flat-append : (xs ys : List Record) → flat (xs ++ ys) ≡ flat xs ++ flat ys
 unfolding flat
 flat-append [] ys = refl
 flat-append (x ∷ xs) ys = ap (λ t. recordBytes x ++ t) (flat-append xs ys) ∙ sym (append-assoc (recordBytes x) (flat xs) (flat ys))
@@ -46,9 +45,6 @@ pub front-whole : {us : List Record} (xs ws : List Record) → us ≡ xs ++ ws �
 front-whole xs ws e k =
     let none-left : ws ≡ [] = flat-none ws (omega (arith, ap (λ l. length (flat l)) e, flat-length xs ws)) in
     e ∙ ap (λ l. xs ++ l) none-left ∙ append-nil xs
-
-abbrev pub BeginsWith : List ℕ → List Record → Type 0
-BeginsWith s xs = take (length (flat xs)) s ≡ flat xs
 
 pub front-shorter : (s : List ℕ) (xs ws : List Record) → BeginsWith s (xs ++ ws) → BeginsWith s xs
 front-shorter s xs ws h =

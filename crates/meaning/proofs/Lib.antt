@@ -1,12 +1,12 @@
 pub mod Bytes
 pub mod Refusal
-pub mod Standing
 pub mod Written
 pub mod Flat
 pub mod CaseBytes
 pub mod Place
 pub mod Called
 pub mod Unique
+pub mod Standing
 pub mod Degrees
 pub mod Front
 pub mod Line

@@ -34,7 +34,7 @@ pub digits-more : (k x : ℕ) → 10 ≤ x → digits (suc k) x ≡ digits k (x 
 unfolding digits
 digits-more k x h = rw (le-ltb x 10 h, digits)
 
-pub digits-enough : (j k x : ℕ) → x < j → x < k → digits j x ≡ digits k x
+digits-enough : (j k x : ℕ) → x < j → x < k → digits j x ≡ digits k x
 digits-enough zero k x h i = absurd (not-suc-le-zero h)
 digits-enough (suc j) zero x h i = absurd (not-suc-le-zero i)
 digits-enough (suc j) (suc k) x h i = elim (one-or-more x) [
@@ -84,7 +84,7 @@ pub decimal-digits : (x : ℕ) → Each IsDigit (decimal x)
 unfolding decimal
 decimal-digits x = digits-digits (suc x) x
 
-pub spaced-append : (a b : List ℕ) → spaced (a ++ b) ≡ spaced a ++ spaced b
+spaced-append : (a b : List ℕ) → spaced (a ++ b) ≡ spaced a ++ spaced b
 unfolding spaced
 spaced-append [] b = refl
 spaced-append (x ∷ a) b = ap (λ l. 32 ∷ (decimal x ++ l)) (spaced-append a b) ∙ ap (λ l. 32 ∷ l) (sym (append-assoc (decimal x) (spaced a) (spaced b)))

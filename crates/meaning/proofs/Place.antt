@@ -17,7 +17,7 @@ use Rattle.meaning.specs.Case.{Case, IsCase, Begins, Place}
 begins-append : (s t : List ℕ) → Begins (s ++ t) → Begins s
 begins-append s t b = record { rest = t ++ b .rest; case = b .case; is = subst (λ u. IsCase u (b .case)) (append-assoc s t (b .rest)) (b .is) }
 
-pub begins-front : (k : ℕ) (s : List ℕ) → Begins s → Begins (take k s)
+begins-front : (k : ℕ) (s : List ℕ) → Begins s → Begins (take k s)
 begins-front k s b = begins-append (take k s) (drop k s) (subst Begins (sym (take-append-drop k s)) b)
 
 pub place-past : (s : List ℕ) (k j : ℕ) → Place s k → j ≤ length s → Begins (take j s) → j ≤ k

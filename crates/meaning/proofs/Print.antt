@@ -38,14 +38,14 @@ digits-number (suc k) x h = elim (decLt x 10) [
   | no b ↦ rw (digits-more k x (omega arith), number-append, digits-number k (x / 10) (omega arith)) (omega arith)
 ]
 
-pub decimal-number : (x : ℕ) → readNumber 0 (decimal x) ≡ x
+decimal-number : (x : ℕ) → readNumber 0 (decimal x) ≡ x
 unfolding decimal
 decimal-number x = digits-number (suc x) x (omega arith)
 
-pub decimal-injective : (x y : ℕ) → decimal x ≡ decimal y → x ≡ y
+decimal-injective : (x y : ℕ) → decimal x ≡ decimal y → x ≡ y
 decimal-injective x y q = sym (decimal-number x) ∙ ap (readNumber 0) q ∙ decimal-number y
 
-pub ascii-injective : (s t : String) → ascii s ≡ ascii t → s ≡ t
+ascii-injective : (s t : String) → ascii s ≡ ascii t → s ≡ t
 ascii-injective empty empty q = refl
 ascii-injective empty (join c t) q = let z : _≡_ {A = ℕ} 0 1 = cc in absurd (omega arith)
 ascii-injective (join c s) empty q = let z : _≡_ {A = ℕ} 0 1 = cc in absurd (omega arith)
@@ -79,7 +79,7 @@ number-injective x y l m r s q =
     let (d, e, f) = parted IsDigit (decimal x) (decimal y) b c u v (decimal-digits x) (decimal-digits y) j n (rw (i, k) at q) in
     (decimal-injective x y d, i ∙ ap₂ _∷_ e f ∙ sym k)
 
-pub spaced-injective : (l m r s : List ℕ) → spaced l ++ (10 ∷ r) ≡ spaced m ++ (10 ∷ s) → (l ≡ m) × (r ≡ s)
+spaced-injective : (l m r s : List ℕ) → spaced l ++ (10 ∷ r) ≡ spaced m ++ (10 ∷ s) → (l ≡ m) × (r ≡ s)
 unfolding spaced
 spaced-injective [] [] r s q = (refl, cc)
 spaced-injective [] (y ∷ m) r s q = let z : _≡_ {A = ℕ} 10 32 = cc in absurd (omega arith)
@@ -124,7 +124,7 @@ word-injective w v (x ∷ l) (y ∷ m) r s h k q =
     let (c, t, f, j) = word-number v m s y in
     append-cancel-right w v (32 ∷ []) (parted Plain (w ++ (32 ∷ [])) (v ++ (32 ∷ [])) d c u t (with-space w h) (with-space v k) (digit-not d i) (digit-not c j) (sym e ∙ q ∙ f) .0)
 
-pub line-injective : (w v l m r s : List ℕ) → Each Plain w → Each Plain v → w ++ (spaced l ++ (10 ∷ r)) ≡ v ++ (spaced m ++ (10 ∷ s))
+line-injective : (w v l m r s : List ℕ) → Each Plain w → Each Plain v → w ++ (spaced l ++ (10 ∷ r)) ≡ v ++ (spaced m ++ (10 ∷ s))
     → (w ≡ v) × (l ≡ m) × (r ≡ s)
 line-injective w v l m r s h k q =
     let same = word-injective w v l m r s h k q in

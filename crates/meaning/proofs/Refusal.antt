@@ -90,11 +90,11 @@ unfolding noPrime
 prime-told p e h = ap not (sym e ∙ h)
 
 -- each test of the table, both ways: it does not apply exactly when its input is good
-pub noPrime-false : (p : ℕ) → noPrime p ≡ false → Prime p × (p ≤ largestPrime)
+noPrime-false : (p : ℕ) → noPrime p ≡ false → Prime p × (p ≤ largestPrime)
 unfolding noPrime
 noPrime-false p q = isPrime-prime p (not-false _ q)
 
-pub prime-noPrime : (p : ℕ) → Prime p → p ≤ largestPrime → noPrime p ≡ false
+prime-noPrime : (p : ℕ) → Prime p → p ≤ largestPrime → noPrime p ≡ false
 unfolding noPrime
 prime-noPrime p P h = ap not (prime-isPrime p P h)
 
@@ -196,7 +196,7 @@ first-past [] us e = refl
 first-past ((j, true) ∷ ts) us e = absurd (Option·none-ne-some j (sym e))
 first-past ((j, false) ∷ ts) us e = first-past ts us e
 
-pub first-none : (k : ℕ) (b : Bool) (ts : List (ℕ × Bool)) → first ((k, b) ∷ ts) ≡ none → (b ≡ false) × (first ts ≡ none)
+first-none : (k : ℕ) (b : Bool) (ts : List (ℕ × Bool)) → first ((k, b) ∷ ts) ≡ none → (b ≡ false) × (first ts ≡ none)
 unfolding first
 first-none k true ts q = absurd (Option·none-ne-some k (sym q))
 first-none k false ts q = (refl, q)

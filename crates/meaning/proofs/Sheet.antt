@@ -19,21 +19,21 @@ use Rattle.algebra.specs.Row.{S}
 use Rattle.algebra.specs.Poly.{Poly, coef}
 use Rattle.algebra.specs.Orders.{WithDegree, Alike}
 use Rattle.algebra.proofs.Act.{act-coef}
-use Rattle.algebra.proofs.Chain.{alike-product}
+use Rattle.algebra.proofs.Alike.{alike-elim, alike-product}
 use Rattle.meaning.specs.Ascii.{ascii}
 use Rattle.meaning.specs.Bytes.{times, e, bytes}
 use Rattle.meaning.specs.Stand.{Standing, proved, short, Outcome}
 use Rattle.meaning.specs.Line.{Line}
 use Rattle.meaning.specs.Print.{Each, Plain, Wordy}
 use Rattle.meaning.specs.Sheet.{fieldLine, standLines, stageLine, chainLine, periodLine, refusedLine, SheetLines}
-use Rattle.meaning.proofs.Unique.{alike-elim, stand-only, chain-only, period-only}
+use Rattle.meaning.proofs.Unique.{stand-only, chain-only, period-only}
 
-pub alike-stageLines : {p : ℕ} (os qs : List (WithDegree p)) → Alike os qs → map stageLine os ≡ map stageLine qs
+alike-stageLines : {p : ℕ} (os qs : List (WithDegree p)) → Alike os qs → map stageLine os ≡ map stageLine qs
 alike-stageLines =
     alike-elim (λ os qs. map stageLine os ≡ map stageLine qs) refl
     (λ o q os qs d c r. ap₂ _∷_ (λ i. record { word = "STAGE"; numbers = bytes (suc (d i)) (c i) }) r)
 
-pub standLines-only : {p : ℕ} (n : ℕ) (X : S p → S p) (s : Standing) (r : Outcome) (f g : Poly p) → coef f ≡ coef g
+standLines-only : {p : ℕ} (n : ℕ) (X : S p → S p) (s : Standing) (r : Outcome) (f g : Poly p) → coef f ≡ coef g
     → standLines n X s r f ≡ standLines n X s r g
 standLines-only n X proved r f g q = λ i.
     record { word = "STAND proved"; numbers = r .taken ∷ r .spent ∷ [] }

@@ -54,13 +54,13 @@ given-size {old = old} h =
     let r = called-given h .1 in
     omega (arith, r .size, ap length (r .buffer), write-covers (r .printed) old)
 
-pub spaced-length : (p : ℕ) (l : List ℕ) → p ≤ 1000 → Small p l → length (spaced l) ≤ 4 * length l
+spaced-length : (p : ℕ) (l : List ℕ) → p ≤ 1000 → Small p l → length (spaced l) ≤ 4 * length l
 unfolding spaced
 spaced-length p [] h s = omega arith
 spaced-length p (x ∷ l) h s =
     omega (arith, length-append (decimal x) (spaced l), decimal-length 3 x (omega (arith, s .0)) (omega arith), spaced-length p l h (s .1))
 
-pub line-length : (w : String) (l : List ℕ) → length (lineBytes (record { word = w; numbers = l })) ≡ length (ascii w) + (length (spaced l) + 1)
+line-length : (w : String) (l : List ℕ) → length (lineBytes (record { word = w; numbers = l })) ≡ length (ascii w) + (length (spaced l) + 1)
 unfolding lineBytes
 line-length w l = length-append (ascii w) (spaced l ++ (10 ∷ [])) ∙ ap (λ k. length (ascii w) + k) (length-append (spaced l) (10 ∷ []))
 
@@ -93,7 +93,7 @@ three-lines : {i j k : ℕ} (x y z : Line) → length (lineBytes x) ≤ i → le
 unfolding text
 three-lines x y z a b c = omega (arith, text-length x (y ∷ z ∷ []), text-length y (z ∷ []), text-length z [])
 
-pub standLines-length : {p : ℕ} (n : ℕ) (X : S p → S p) (s : Standing) (r : Outcome) (f : Poly p) → 0 < p → p ≤ largestPrime → n ≤ widest
+standLines-length : {p : ℕ} (n : ℕ) (X : S p → S p) (s : Standing) (r : Outcome) (f : Poly p) → 0 < p → p ≤ largestPrime → n ≤ widest
     → r .taken ≤ mostCandidates → r .spent < 10 ^ 10 → r .degree ≤ n → (s ≡ short → r .witness ≤ n) → length (text (standLines n X s r f)) ≤ 564
 unfolding spaced
 standLines-length n X proved r f h b q t s d w =
@@ -117,7 +117,7 @@ standLines-length {p} n X short r f h b q t s d w =
     ) in
     le-trans (three-lines _ _ _ c g v) (omega arith)
 
-pub stageLines-length : {p : ℕ} (st : List (WithDegree p)) → 0 < p → p ≤ largestPrime → length (text (map stageLine st)) ≤ 10 * length st + 4 * degrees st
+stageLines-length : {p : ℕ} (st : List (WithDegree p)) → 0 < p → p ≤ largestPrime → length (text (map stageLine st)) ≤ 10 * length st + 4 * degrees st
 unfolding degrees text
 stageLines-length [] h b = omega arith
 stageLines-length (s ∷ st) h b =

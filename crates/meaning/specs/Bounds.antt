@@ -3,6 +3,7 @@
 --   widest            64: n is at most this, so no row has more entries
 --   coefficients      65: no polynomial of a machine has more, and the image call takes no more
 --   mostCandidates    128: the candidate list has no more rows
+--   matrixRoom, candidateRoom   bytes enough for every matrix, and for every list
 --   fullAllowance     8,192: so many products pay for every list
 --   Sound p n m       p is a prime from 2 to 251, n is 1 to 64, and m is an n×n matrix of numbers below p
 --   SoundRows p n cs  cs is a list of 0 to 128 rows of n numbers below p
@@ -25,6 +26,12 @@ coefficients = widest + 1
 
 abbrev pub mostCandidates : ℕ
 mostCandidates = 128
+
+abbrev pub matrixRoom : ℕ
+matrixRoom = widest * widest
+
+abbrev pub candidateRoom : ℕ
+candidateRoom = mostCandidates * widest
 
 abbrev pub fullAllowance : ℕ
 fullAllowance = mostCandidates * widest

@@ -2,6 +2,7 @@
 --   Record         a record: F with p and n, A with its two halves, R or C with its entries, E
 --   recordBytes r  the mark, 255 and a letter, and what the record holds
 --   flat rs        the bytes of a list of records
+--   BeginsWith s rs   the first bytes of s are those of the records rs
 --   Case           the values of a case; `allowance` is missing where there is no A record
 --   allowRecord a  the A record, where there is one
 --   records c      F, then at most one A, then the R records, then the C records, then E
@@ -48,6 +49,9 @@ recordBytes end = 255 ∷ 69 ∷ []
 unfoldable pub flat : List Record → List ℕ
 flat [] = []
 flat (r ∷ rs) = recordBytes r ++ flat rs
+
+abbrev pub BeginsWith : List ℕ → List Record → Type 0
+BeginsWith s rs = take (length (flat rs)) s ≡ flat rs
 
 pub record Case : Type 0 where
   pub p : ℕ

@@ -13,6 +13,11 @@ pub const COEFFICIENTS: usize = WIDEST + 1;
 // The most rows that a candidate list has.
 pub const MOST_CANDIDATES: usize = 128;
 
+// Bytes enough for every matrix, and for every candidate list.
+pub const MATRIX_ROOM: usize = WIDEST * WIDEST;
+
+pub const CANDIDATE_ROOM: usize = MOST_CANDIDATES * WIDEST;
+
 // The bytes of the stage record at the largest n.
 pub const STAGE_RECORD: usize = 2 * WIDEST;
 

@@ -1,6 +1,6 @@
 -- Demands 2 and 3 of the call's answers and buffers: for any answers that the contract of the stand permits.
 --   Answered ..        what an answer says: the input is within the bounds, and the stand is that of the polynomial in the buffer
---   answer-sound, answer-room, answer-stand   an answered call: input within the bounds, buffers long enough, the stand of the polynomial in them
+--   answer-room, answer-stand   an answered call: buffers long enough, the stand of the polynomial in them
 --   answer-minimal, answer-short              demand 2
 --   answer-more, answer-reordered             demand 3, its first two sentences
 --   calls-bounded, calls-again, calls-few     what is known of each run of calls
@@ -9,26 +9,24 @@
 -- Assumes nothing.
 use mathlib.Core.Path.{_≡_, refl, sym, ap, subst, _∙_}
 use mathlib.Core.List.{List, _++_, Perm}
-use Prim.Native.Nat.{ℕ, zero, suc, _+_, _-_, _/_, _≤_, suc-le-suc}
+use Prim.Native.Nat.{ℕ, zero, suc, _+_, _-_, _≤_, suc-le-suc}
+use native.Mathlib.Nat.{le-refl}
 use native.Mathlib.Numerals.{unary-clauses}
 use native.Mathlib.Omega.{arith}
 use lib.ListN.{length, take}
-use lib.Seq.{take-at}
-use Rattle.algebra.specs.Row.{S}
-use Rattle.algebra.specs.Poly.{Poly, coef, act, _∣_}
-use Rattle.algebra.specs.Orders.{polys, KillsEvery}
+use Rattle.algebra.specs.Poly.{coef, act, _∣_}
+use Rattle.algebra.specs.Orders.{KillsEvery}
 use Rattle.algebra.proofs.Row.{below-more}
-use Rattle.algebra.proofs.Act.{act-coef}
-use Rattle.algebra.proofs.Poly.{least-resp}
-use Rattle.algebra.proofs.Gcd.{multiples-ideal}
-use Rattle.meaning.specs.Bytes.{row, times, byteRows, rows, e, bytes, write}
+use Rattle.meaning.specs.Bytes.{row, times, byteRows, rows, e, bytes}
 use Rattle.meaning.specs.Bounds.{Sound, SoundRows}
 use Rattle.meaning.specs.Polynomial.{IsMinimal}
-use Rattle.meaning.specs.Stand.{Standing, proved, short, Tested, Outcome, IsStand, witnessRow, FirstUnsent}
+use Rattle.meaning.specs.Stand.{Standing, proved, short, Outcome, IsStand, witnessRow, FirstUnsent}
 use Rattle.meaning.specs.Calls.{Answer, given, StandCall}
-use Rattle.meaning.proofs.Bytes.{bytes-length, row-bytes, polyOf-coef}
+use Rattle.meaning.proofs.Bytes.{row-bytes, polyOf-coef}
 use Rattle.meaning.proofs.Refusal.{stand-sound, sound-stand}
-use Rattle.meaning.proofs.Unique.{lcm-least, least-lcm, witness-only}
+use Rattle.meaning.proofs.Standing.{stand-resp}
+use Rattle.meaning.proofs.Written.{written-front}
+use Rattle.meaning.proofs.Unique.{witness-only}
 use Rattle.meaning.proofs.Degrees.{stand-degree}
 use Rattle.promises.specs.Run.{standOf}
 use Rattle.promises.specs.Additions.{FromBounds, added, Run, start, more, AfterAdditions}
@@ -37,33 +35,6 @@ use Rattle.meaning.proofs.Called.{called-given}
 use Rattle.promises.proofs.Calls.{stand-exists}
 use Rattle.promises.proofs.Demand2.{proved-minimal, minimal-proved, short-witness}
 use Rattle.promises.proofs.Demand3.{more-divides, more-keeps, reordered, additions-bounded, run-next}
-
--- the same polynomial has the same stand
-tested-resp : {p : ℕ} (X : S p → S p) (n : ℕ) (f g : Poly p) → coef f ≡ coef g → (s : Standing) (w : ℕ) → Tested X n f s w → Tested X n g s w
-tested-resp X n f g q proved w T = (λ i l h. sym (act-coef X f g q (e i)) ∙ T .0 i l h, T .1)
-tested-resp X n f g q short w T =
-    record {
-      from = T .from;
-      to = T .to;
-      unsent = λ K. T .unsent (act-coef X f g q (e w) ∙ K);
-      first = λ i l h. sym (act-coef X f g q (e i)) ∙ T .first i l h;
-    }
-
-stand-resp : {p n : ℕ} {m cs : List ℕ} {a : ℕ} {r : Outcome} (f g : Poly p) → coef f ≡ coef g → IsStand p n m cs a r f → IsStand p n m cs a r g
-stand-resp {r} f g q A =
-    record {
-      orders = A .orders;
-      each = A .each;
-      front = A .front;
-      spent = A .spent;
-      common = least-lcm (least-resp (multiples-ideal (polys (take (r .taken) (A .orders)))) q (lcm-least (A .common)));
-      tested = tested-resp _ _ f g q (r .standing) (r .witness) (A .tested);
-    }
-
--- what is written is read back
-written : {p : ℕ} (k : ℕ) (s : S p) (old new : List ℕ) → new ≡ write (bytes k s) old → take k new ≡ bytes k s
-unfolding write
-written k s old new q = ap (take k) q ∙ take-at (bytes k s) _ k (bytes-length k s)
 
 record Answered (p n : ℕ) (m cs : List ℕ) (a : ℕ) (r : Outcome) (new : Buffers) : Type 0 where
   sound : Sound p n m
@@ -77,7 +48,7 @@ answered {p} {n} {m} {cs} {a} {old} {new} {r} A =
     let (q, R) = called-given A in
     let K = stand-sound p n m cs (old .0) (old .1) q in
     let f = R .poly in
-    let w = written (suc n) (coef f) (old .0) (new .0) (R .polynomial) in
+    let w = written-front (suc n) (suc n) (coef f) (old .0) (le-refl _) (R .polynomial) .0 in
     let d = stand-degree (K .0 .prime) n m cs a r f (R .stand) in
     let c = sym (polyOf-coef p _ ∙ ap (row p) w ∙ row-bytes (suc n) (coef f) (below-more (suc-le-suc d) (R .stand .common .monic .above))) in
     record {
@@ -85,15 +56,12 @@ answered {p} {n} {m} {cs} {a} {old} {new} {r} A =
       list = K .1;
       stand = stand-resp f (shown p n new) c (R .stand);
       polynomial = w ∙ ap (bytes (suc n)) c;
-      image = written n _ (old .1) (new .1) (R .witness) ∙ ap (bytes n) (witness-only (times p n m) f (shown p n new) c (r .standing) (r .witness));
+      image = written-front n n _ (old .1) (le-refl _) (R .witness) .0 ∙ ap (bytes n) (witness-only (times p n m) f (shown p n new) c (r .standing) (r .witness));
     }
 
 -- of one answered call
 module _ {p n : ℕ} {m cs : List ℕ} {a : ℕ} {old new : Buffers} {r : Outcome} (A : StandCall p n m cs a old (given r) new) where
-  -- the input is within the bounds, the buffers are long enough, and the polynomial in the buffer is the stand's
-  pub answer-sound : Sound p n m × SoundRows p n cs
-  answer-sound = (answered A .sound, answered A .list)
-
+  -- the buffers are long enough, and the polynomial in the buffer is the stand's
   pub answer-room : LongEnough n old
   answer-room =
       let K = stand-sound p n m cs (old .0) (old .1) (called-given A .0) in
@@ -170,7 +138,7 @@ module _ {p n : ℕ} {m cs ds : List ℕ} {a k : ℕ} {r s : Outcome} (F : FromB
       (t .0, t .1)
 
   -- and no run has more than n − d additions, d the first degree: so a run that goes on while the answer is short ends in proved
-  pub calls-few : (k ≤ n - r .degree) × (k ≡ n - r .degree → s .standing ≡ proved)
+  calls-few : (k ≤ n - r .degree) × (k ≡ n - r .degree → s .standing ≡ proved)
   calls-few = (omega (arith, calls-bounded), λ c. go c (s .standing) refl)
     where
       go : k ≡ n - r .degree → (t : Standing) → s .standing ≡ t → s .standing ≡ proved
@@ -187,7 +155,7 @@ call-room (first old new A) = (old, answer-room A)
 call-room (again old new R q A) = (old, answer-room A)
 
 -- a run, and one from its last call on, are one run
-pub call-join : {p n : ℕ} {m cs ds es : List ℕ} {a k j : ℕ} {r s t : Outcome} → CallRun p n m a cs r k ds s → CallRun p n m a ds s j es t
+call-join : {p n : ℕ} {m cs ds es : List ℕ} {a k j : ℕ} {r s t : Outcome} → CallRun p n m a cs r k ds s → CallRun p n m a ds s j es t
     → CallRun p n m a cs r (k + j) es t
 call-join R (first old new A) = simp unary-clauses R
 call-join R (again old new T q A) = simp unary-clauses (again old new (call-join R T) q A)

@@ -4,21 +4,20 @@
 --   inverse-exists, order-exists, image-exists, stand-exists, chain-exists, period-exists   a permitted answer, with what the buffers hold
 --   inverse-unique, order-unique, image-unique, stand-unique, chain-unique, period-unique   any two agree, buffers included
 -- Assumes nothing.
-use mathlib.Core.Path.{_≡_, refl, sym, ap, _∙_, subst, Σ-path}
+use mathlib.Core.Path.{_≡_, refl, sym, _∙_, Σ-path}
 use mathlib.Core.List.{List}
-use mathlib.Core.Option.{Option, none, some, Option·none-ne-some}
+use mathlib.Core.Option.{Option}
 use Prim.Native.Nat.{ℕ}
-use native.Mathlib.Omega.{arith}
-use Rattle.algebra.proofs.Chain.{alike-product}
 use Rattle.meaning.specs.Bytes.{row, times}
 use Rattle.meaning.specs.Stand.{Outcome}
 use Rattle.meaning.specs.Refusal.{inverseRefusal, periodRefusal}
 use Rattle.meaning.specs.Calls.{Answer, InverseCall, OrderCall, ImageCall, StandCall, ChainCall, PeriodCall}
 use Rattle.meaning.proofs.Refusal.{inverse-sound, order-sound, stand-sound, chain-sound}
 use Rattle.meaning.proofs.Called.{called-exists, called-unique}
-use Rattle.meaning.proofs.Unique.{order-only, stand-only, witness-only, chain-only, period-only, inverse-only, alike-length, alike-stageBytes}
+use Rattle.meaning.proofs.Unique.{order-only, stand-only, witness-only, chain-only, period-only, inverse-only, alike-stageBytes}
 use Rattle.promises.specs.Run.{periodOf}
 use Rattle.promises.proofs.Found.{inverse-found, order-found, stand-found, chain-found, period-found}
+use Rattle.algebra.proofs.Alike.{alike-length, alike-product}
 
 unfoldable pub inverse-exists : (p a : ℕ) → (answer : Answer ℕ) × InverseCall p a answer
 inverse-exists p a =

@@ -15,12 +15,12 @@ use Rattle.algebra.specs.Row.{S, unit}
 use Rattle.algebra.specs.Poly.{Poly, _∣_, Least, Kills}
 use Rattle.algebra.specs.Orders.{AllBelow, KillsAll, KillsEvery}
 use Rattle.algebra.proofs.Poly.{least-divides}
-use Rattle.algebra.proofs.Orders.{kills-all-ideal, kills-every-all, least-minimal}
+use Rattle.algebra.proofs.Orders.{kills-all-ideal, kills-every-all, least-minimal, below-take}
 use Rattle.meaning.specs.Bytes.{times, rows, e}
 use Rattle.meaning.specs.Polynomial.{IsMinimal}
 use Rattle.meaning.specs.Stand.{Standing, proved, short, Outcome, IsStand, FirstUnsent}
 use Rattle.meaning.proofs.Bytes.{times-linear, e-below, rows-below}
-use Rattle.meaning.proofs.Degrees.{below-take, stand-least}
+use Rattle.meaning.proofs.Degrees.{stand-least}
 
 -- the unit rows e(1), .., e(n) are those at the places below n
 e-units : {p : ℕ} (X : S p → S p) (n : ℕ) (f : Poly p) → ((i : ℕ) → 1 ≤ i → i ≤ n → Kills X (e i) f) → (i : ℕ) → i < n → Kills X (unit i) f

@@ -10,11 +10,10 @@
 -- Assumes nothing.
 use mathlib.Core.Path.{_≡_, refl, sym, ap, ap₂, subst, _∙_}
 use mathlib.Core.Logic.{∥∥₁-elim}
-use mathlib.Core.HLevel.{Π-set, hedberg, ×-prop}
+use mathlib.Core.HLevel.{×-prop}
 use mathlib.Core.List.{List, [], _∷_, _++_, map, Perm, List·Permᴰ, List·Permᴰ·nil, List·Permᴰ·cons, List·Permᴰ·swap, List·Permᴰ·trans, Permᴰ·symm}
 use Prim.Native.Nat.{ℕ, zero, suc, _+_, _*_, _/_, _<_, _≤_}
 use native.Mathlib.Nat.{ℕ-set, add-zero, mul-le-mul, div-eq-of-eq-mul-left, le-refl, le-of-eq, le-trans, le-of-suc-le-suc, not-suc-le-zero}
-use native.Mathlib.Decide.{map-dec, ℕ-discrete}
 use native.Mathlib.Omega.{arith}
 use lib.ListN.{length, take, length-append, length-map}
 use lib.Seq.{take-all, take-length, take-append-le}
@@ -23,11 +22,11 @@ use Rattle.algebra.specs.Row.{S, Linear}
 use Rattle.algebra.specs.Poly.{Poly, coef, _∣_, Least, Kills}
 use Rattle.algebra.specs.Orders.{AllBelow, WithDegree, Orders, KillsAll}
 use Rattle.algebra.specs.Spin.{orderOf}
-use Rattle.algebra.proofs.Field.{fp-path}
 use Rattle.algebra.proofs.Act.{act-coef}
 use Rattle.algebra.proofs.Poly.{divides-antisym, divides-grows, least-unique, least-same, kills-ideal}
-use Rattle.algebra.proofs.Orders.{kills-all-ideal, kills-every-ideal, kills-last, least-inside, orders-unique}
+use Rattle.algebra.proofs.Orders.{kills-all-ideal, kills-every-ideal, kills-last, least-inside, orders-unique, kills-take}
 use Rattle.algebra.proofs.Chain.{annihilator}
+use Rattle.algebra.proofs.Row.{S-set}
 use Rattle.meaning.specs.Bytes.{Small, row, times, byteRows, rows, e, bytes}
 use Rattle.meaning.specs.Stand.{sum, degs, Standing, proved, short, Outcome, IsStand}
 use Rattle.meaning.specs.Bounds.{mostCandidates, fullAllowance, Sound, SoundRows}
@@ -50,13 +49,6 @@ orders-front P L (v ∷ vs) ws [] qs O Q (suc t) h = absurd O
 orders-front P L (v ∷ vs) ws (o ∷ os) [] O Q (suc t) h = absurd Q
 orders-front P L (v ∷ vs) ws (o ∷ os) (q ∷ qs) O Q (suc t) h =
     ap₂ _∷_ (least-unique P (kills-ideal L v) (O .0) (Q .0) .0) (orders-front P L vs ws os qs (O .1) (Q .1) t (le-of-suc-le-suc h))
-
--- what sends a front part to zero sends a shorter one to zero
-kills-take : {p : ℕ} (X : S p → S p) (vs : List (S p)) (f : Poly p) (t u : ℕ) → t ≤ u → KillsAll X (take u vs) f → KillsAll X (take t vs) f
-kills-take X vs f zero u h k = tt
-kills-take X vs f (suc t) zero h k = absurd (not-suc-le-zero h)
-kills-take X [] f (suc t) (suc u) h k = tt
-kills-take X (v ∷ vs) f (suc t) (suc u) h k = (k .0, kills-take X vs f t u (le-of-suc-le-suc h) (k .1))
 
 module _ {p n : ℕ} {m cs : List ℕ} {a : ℕ} {r : Outcome} {f : Poly p} (A : IsStand p n m cs a r f) where
   stand-count : length (degs (A .orders)) ≡ length (rows p n cs)
@@ -142,9 +134,6 @@ stand-weights {p} P {n} {m} {cs} A =
     let os = ordersOf (times p n m) n (rows p n cs) in
     let O = ordersOf-orders P (times p n m) n M (rows p n cs) (rows-below p n cs) in
     ap sum (alike-degs (A .orders) os (orders-unique P (M .linear) (rows p n cs) (A .orders) os (A .each) O) ∙ weights p n m (byteRows n cs))
-
-S-set : {p : ℕ} → IsSet (S p)
-S-set = Π-set (λ i. hedberg (λ a b. map-dec fp-path (ap (λ c. c .val)) (ℕ-discrete (a .val) (b .val))))
 
 -- (b) where all are taken, another sequence of the same rows changes nothing: all are taken again, with the same polynomial, mark and unit row
 pub reordered : {p n : ℕ} {m cs ds : List ℕ} {a : ℕ} {r s : Outcome} {f g : Poly p} → Prime p → Perm (byteRows n cs) (byteRows n ds)

@@ -13,24 +13,21 @@ use Rattle.algebra.specs.Gcd.{size, head, monic, divide-turn, divide, gcd-steps
 use Rattle.algebra.specs.Echelon.{lead, deeper, clear, reduce}
 use Rattle.algebra.specs.Orders.{WithDegree, Alike, units, product}
 use Rattle.algebra.specs.Spin.{long, clip, tail, clipKept, newKept, spin, spinOver, orderOf, keep, chain}
-use Rattle.algebra.proofs.Chain.{alike-product}
+use Rattle.algebra.proofs.Alike.{alike-elim, alike-length, alike-product}
 use Rattle.meaning.specs.Bytes.{tab, row, rowAt, byteRows, rows, times, bytes, e}
 use Rattle.meaning.specs.Stand.{sum, Outcome, standingOf}
 use Rattle.meaning.specs.Period.{longest}
 use Rattle.meaning.specs.Refusal.{isPrime, allBelow}
 use Rattle.promises.specs.Figures.{Sheet, Figure, asked, written, sheet, FigureHolds, AllHold, table}
 use Rattle.meaning.proofs.Refusal.{isPrime-prime}
-use Rattle.meaning.proofs.Unique.{stand-only, chain-only, period-only, witness-only, alike-length}
+use Rattle.meaning.proofs.Unique.{stand-only, chain-only, period-only, witness-only}
 use Rattle.promises.specs.Run.{takenOf, witnessOf, ordersOf, standOrders, standTaken, standPoly, standWitness, standOf, chainOf}
 use Rattle.promises.specs.Run.{same, sameRows, firstPower, nextPower, periodFrom, periodOf}
 use Rattle.promises.proofs.Found.{stand-found, chain-found, period-found}
 
 alike-written : {p : ℕ} (os qs : List (WithDegree p)) → Alike os qs → map written os ≡ map written qs
 unfolding written
-alike-written [] [] h = refl
-alike-written [] (q ∷ qs) h = absurd h
-alike-written (o ∷ os) [] h = absurd h
-alike-written (o ∷ os) (q ∷ qs) h = ap₂ _∷_ (ap₂ (λ d s. bytes (suc d) s) (h .0) (h .1)) (alike-written os qs (h .2))
+alike-written = alike-elim (λ os qs. map written os ≡ map written qs) refl (λ o q os qs d c r. ap₂ _∷_ (ap₂ (λ d s. bytes (suc d) s) d c) r)
 
 module _ (g : Figure) where
   open Figure g using (p, n, m, cs, a, shows)

@@ -60,7 +60,7 @@ case-refused-by-none c W poly image product stages h i j k =
       sound-period (c .p) (c .n) (matrixBytes c) A,
     )
 
-pub sheetLines-found : {p : ℕ} → Prime p → (n : ℕ) (m cs : List ℕ) (a : ℕ) → SheetLines p n m cs a (linesOf p n m cs a)
+sheetLines-found : {p : ℕ} → Prime p → (n : ℕ) (m cs : List ℕ) (a : ℕ) → SheetLines p n m cs a (linesOf p n m cs a)
 unfolding linesOf
 sheetLines-found {p} P n m cs a =
     record {

@@ -192,12 +192,12 @@ step-refused step.End k h = absurd (Option·none-ne-some _ h)
 step-refused step.Over k h = absurd (Option·none-ne-some _ h)
 step-refused (step.Refused j) k h = ap (λ x. step.Refused (x .1)) (Option·some-injective _ _ h)
 
-pub next-same : {s : List ℕ} {at : ℕ} {x y : Record} → NextRecord s at x → NextRecord s at y → x ≡ y
+next-same : {s : List ℕ} {at : ℕ} {x y : Record} → NextRecord s at x → NextRecord s at y → x ≡ y
 next-same M N =
     let Q = next-peeked N refl in
     Option·some-injective _ _ (sym (peeked-is (next-peeked M refl) (Q .ahead) .0) ∙ Q .is)
 
-pub next-ended : {s : List ℕ} {at : ℕ} {x : Record} → NextRecord s at x → Ended s at → ⊥
+next-ended : {s : List ℕ} {at : ℕ} {x : Record} → NextRecord s at x → Ended s at → ⊥
 next-ended {x = x} N E = omega (arith, next-standing N .within, record-long x, E .length-of)
 
 stepped-same : {a b : Stepped} → a .step ≡ b .step → a .from .at ≡ b .from .at → a .next .at ≡ b .next .at → a ≡ b

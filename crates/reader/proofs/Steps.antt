@@ -4,7 +4,7 @@
 --   moved-unique     so is there one for the reader
 --   handed-next      a step that hands out a record hands out the next one
 --   next-step        and the next record is handed out by a step
---   handed-front, handed-length   what is handed out are the first bytes, up to the offset behind them
+--   handed-length    how many bytes were handed out
 --   handed-compare   of what is handed out and the first records of a case that s holds, one begins the other
 --   handed-case      what is handed out of a case are its first records
 --   front-next       a record of a case is next behind the records before it, where s holds it and them
@@ -24,8 +24,8 @@ use native.Mathlib.Nat.{le-refl, le-antisymm}
 use native.Mathlib.Omega.{arith}
 use lib.ListN.{length, take, drop, length-append, take-append-drop}
 use lib.Seq.{length-take-le}
-use Rattle.meaning.specs.Case.{Record, recordBytes, flat, Case, records, caseBytes, WellFormed, IsCase, Place}
-use Rattle.meaning.proofs.Flat.{record-long, flat-one, BeginsWith, front-shorter, case-front}
+use Rattle.meaning.specs.Case.{Record, recordBytes, flat, Case, records, caseBytes, WellFormed, IsCase, Place, BeginsWith}
+use Rattle.meaning.proofs.Flat.{record-long, flat-one, front-shorter, case-front}
 use Rattle.meaning.proofs.Place.{place-past}
 use Rattle.scan.specs.declared.State.{State}
 use Rattle.scan.specs.declared.State.the-variants.{Start, Over}
@@ -88,7 +88,7 @@ moved-unique {a = a} {b = b} {x = x} {y = y} m n =
     (λ i. record { src = src i; at = at i }, same)
 
 -- what one step hands out
-pub handed-next : {s : List ℕ} {at : ℕ} {x : Record} {r : Stepped} → StepIs s at r → recordOf s r ≡ some x
+handed-next : {s : List ℕ} {at : ℕ} {x : Record} {r : Stepped} → StepIs s at r → recordOf s r ≡ some x
     → NextRecord s at x × (r .next .at ≡ at + length (recordBytes x))
 handed-next {s} {at} {x} {r} (hands y N h d e) k =
     let same : y ≡ x = Option·some-injective _ _ (sym h ∙ k) in
@@ -97,7 +97,7 @@ handed-next {s} {r = r} (over E h d e) k = absurd (Option·none-ne-some _ (ap (r
 handed-next {s} {r = r} (refuses j n m P h d e) k = absurd (Option·none-ne-some _ (ap (recordWith (entriesIn s r)) (sym (step-refused (r .step) j h)) ∙ k))
 
 -- what is handed out is what the next record is
-pub next-step : {s : List ℕ} {at : ℕ} {x : Record} → NextRecord s at x → (r : Stepped) × StepIs s at r × (recordOf s r ≡ some x) × (r .next .at ≡ at + length (recordBytes x))
+next-step : {s : List ℕ} {at : ℕ} {x : Record} → NextRecord s at x → (r : Stepped) × StepIs s at r × (recordOf s r ≡ some x) × (r .next .at ≡ at + length (recordBytes x))
 next-step {s} {at} {x} N =
     let P = next-peeked N refl in
     (steppedTo (P .said) at (P .next), hands x N (P .is) refl (P .behind), P .is, P .behind)
@@ -133,9 +133,6 @@ handed-led (more r H S h) =
     let n = handed-next S h in
     led-next (handed-led H) (n .0) (n .1)
 
-pub handed-front : {s : List ℕ} {xs : List Record} {at : ℕ} → Handed s xs at → (flat xs ≡ take at s) × (at ≤ length s)
-handed-front H = let A = handed-led H in (A .bytes, A .within)
-
 pub handed-length : {s : List ℕ} {xs : List Record} {at : ℕ} → Handed s xs at → at ≡ length (flat xs)
 handed-length {s} {xs} {at} H = let A = handed-led H in sym (length-take-le at s (A .within)) ∙ ap length (sym (A .bytes))
 
@@ -161,7 +158,7 @@ handed-case {s} {xs} {at} {c} H i =
     (handed-compare (records c) [] H (i .well-formed) (sym (append-nil (records c))) (case-front i (records c) [] (sym (append-nil (records c)))))
 
 -- a record of a case, behind records that s holds from its front on, is next where s holds it too
-pub front-next : {s : List ℕ} {c : Case} (xs ys : List Record) (x : Record) → WellFormed c → records c ≡ xs ++ (x ∷ ys)
+front-next : {s : List ℕ} {c : Case} (xs ys : List Record) (x : Record) → WellFormed c → records c ≡ xs ++ (x ∷ ys)
     → BeginsWith s (xs ++ (x ∷ [])) → NextRecord s (length (flat xs)) x
 front-next {s} {c} xs ys x w e h =
     let size : length (flat xs) + length (recordBytes x) ≡ length (flat (xs ++ (x ∷ []))) = sym (ap length (flat-one xs x) ∙ length-append (flat xs) (recordBytes x)) in
@@ -211,7 +208,7 @@ steps-case {s} {c} i =
     record { at = at; handed = handed-records i (records c) [] refl at-front; says = said; every = λ r S. step-unique S said }
 
 -- where the steps end no record is next
-pub ends-no-next : {s : List ℕ} {xs : List Record} {e : Step} (E : Ends s xs e) (x : Record) → ¬ NextRecord s (E .at) x
+ends-no-next : {s : List ℕ} {xs : List Record} {e : Step} (E : Ends s xs e) (x : Record) → ¬ NextRecord s (E .at) x
 ends-no-next E x N =
     let r = next-step N in
     let stays : r .0 .next .at ≡ E .at = ap (λ (y : Stepped). y .next .at) (E .every (r .0) (r .1)) in

@@ -1,6 +1,8 @@
 -- What a step of the reader answers (01, "Case file, house layout").
+--   entriesOf s at e x   the entries of the step x that was made at the offset `at` and ends at e
 --   entriesIn s r     the entries that the answer r hands out: the bytes of s behind the mark of an R or a C record, up to its end
 --   Stretch s a l t   t is the stretch l of s: it has these bytes, and they lie in memory where s has its bytes from the offset a on
+--   recordWith l x    the record that the step x says, with the entries l
 --   recordOf s r      the record that the answer r hands out, its entries read off the bytes s
 --   refusalOf x       01's number and the place that a step says
 --   NextRecord s at x   a well-formed case has the record x behind the records that fill s up to `at`, and s holds x there whole

@@ -68,12 +68,12 @@ unfolding first due
 number-last k true = refl
 number-last k false = refl
 
-pub number-step : (k : ℕ) (b : Bool) (ts : List (ℕ × Bool)) → numberOf (first ((suc k, b) ∷ ts)) ≡ earlier (due (suc k) b) (numberOf (first ts))
+number-step : (k : ℕ) (b : Bool) (ts : List (ℕ × Bool)) → numberOf (first ((suc k, b) ∷ ts)) ≡ earlier (due (suc k) b) (numberOf (first ts))
 unfolding first due earlier
 number-step k true ts = refl
 number-step k false ts = refl
 
-pub due-or : (k : ℕ) (a b : Bool) → due (suc k) (a || b) ≡ earlier (due (suc k) a) (due (suc k) b)
+due-or : (k : ℕ) (a b : Bool) → due (suc k) (a || b) ≡ earlier (due (suc k) a) (due (suc k) b)
 unfolding due earlier
 due-or k true b = refl
 due-or k false b = refl

@@ -65,7 +65,7 @@ small-or-bad p (x ∷ l) =
           ]
     ]
 
-pub firstBad-place : (p : ℕ) (l : List ℕ) (i : ℕ) → firstBad p l ≡ some i → BadAt p l i
+firstBad-place : (p : ℕ) (l : List ℕ) (i : ℕ) → firstBad p l ≡ some i → BadAt p l i
 firstBad-place p l i q =
     elim (small-or-bad p l) [
       | inl s ↦ absurd (Option·none-ne-some i (sym (firstBad-small p l (small-at p l s)) ∙ q))

@@ -43,7 +43,7 @@ viable-begins s g =
     let c = over-case (s ++ l .rest) (run-append Start s (l .rest) ∙ l .ends) in
     record { rest = l .rest; case = c .0; is = c .1 }
 
-pub begins-alive : (s : List ℕ) → Begins s → Alive (run Start s)
+begins-alive : (s : List ℕ) → Begins s → Alive (run Start s)
 begins-alive s b =
     run-alive (run Start s) (b .rest) (viable-alive (subst Viable (sym (case-over (b .is)) ∙ run-append Start s (b .rest)) tt))
 
@@ -52,10 +52,10 @@ pub scans-start : (s : List ℕ) → Scans s 0 Start
 unfolding run
 scans-start s = record { within = zero-le; comes = refl; viable = tt }
 
-pub scans-begins : {s : List ℕ} {i : ℕ} {q : State} → Scans s i q → Begins (take i s)
+scans-begins : {s : List ℕ} {i : ℕ} {q : State} → Scans s i q → Begins (take i s)
 scans-begins {s} {i} r = viable-begins (take i s) (subst Viable (sym (r .comes)) (r .viable))
 
-pub run-byte : (s : List ℕ) (i : ℕ) → i < length s → run Start (take (suc i) s) ≡ after (run Start (take i s)) (getD s i 0)
+run-byte : (s : List ℕ) (i : ℕ) → i < length s → run Start (take (suc i) s) ≡ after (run Start (take i s)) (getD s i 0)
 unfolding run
 run-byte s i h = ap (run Start) (take-suc s i 0 h) ∙ run-append Start (take i s) (getD s i 0 ∷ [])
 

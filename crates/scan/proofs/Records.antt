@@ -91,7 +91,7 @@ letter-end : (h : Head) → h .n ≤ h .count → letter h 69 ≡ Over (stale h 
 unfolding letter
 letter-end h i = rw (le-leb (h .n) (h .count) i)
 
-pub fits-run : {q z : State} {x : Record} → Fits q x z → Viable q → (t : List ℕ) → run q (recordBytes x ++ t) ≡ run z t
+fits-run : {q z : State} {x : Record} → Fits q x z → Viable q → (t : List ℕ) → run q (recordBytes x ++ t) ≡ run z t
 unfolding recordBytes run after
 fits-run (fits-field {p} {n} P h k) g t = ap (λ b. run (only b (Size p)) (n ∷ t)) P ∙ ap (λ q. run q t) (sized-body p n h k)
 fits-run (fits-allow {h} {high} {low} f i k) g t =

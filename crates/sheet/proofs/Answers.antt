@@ -21,7 +21,7 @@ use Rattle.algebra.specs.Poly.{coef, act}
 use Rattle.algebra.specs.Orders.{WithDegree, Stages, end, pass, stage, product}
 use Rattle.meaning.specs.Bytes.{times, e, bytes, write, padded}
 use Rattle.meaning.specs.Bounds.{coefficients, widest, Sound, SoundRows}
-use Rattle.meaning.specs.Stand.{Standing, proved, short, Outcome, witnessRow}
+use Rattle.meaning.specs.Stand.{proved, short, Outcome, witnessRow}
 use Rattle.meaning.specs.Chain.{stageBytes, stageRoom}
 use Rattle.meaning.specs.Calls.{given, StandResult, StandCall, ChainResult, ChainCall, PeriodCall}
 use Rattle.meaning.specs.Line.{Line, text}
@@ -32,8 +32,7 @@ use Rattle.meaning.proofs.Refusal.{sound-stand, sound-chain, sound-period}
 use Rattle.meaning.proofs.SheetRoom.{sheetLines-room}
 use Rattle.meaning.proofs.Called.{refused-given}
 use Rattle.meaning.proofs.Written.{written-front}
-use Rattle.calls.specs.Answers.{stoodOf, chainedOf, periodedOf}
-use Rattle.calls.specs.declared.Counts.{Counts}
+use Rattle.calls.specs.Answers.{countedAs, stoodOf, chainedOf, periodedOf}
 use Rattle.calls.specs.declared.Stood.{Stood}
 use Rattle.calls.specs.declared.Stood.the-variants as stood
 use Rattle.calls.specs.declared.Chained.{Chained}
@@ -43,15 +42,12 @@ use Rattle.calls.specs.declared.Perioded.the-variants as perioded
 use Rattle.sheet.specs.Lines.{countsLine, unwitnessedLine, stoodLines, StoodFits, StagesIn, stageLinesIn, chainedLines, ChainedFits, periodedLines}
 
 -- the stand
-abbrev stoodOutcome : Standing → Counts → ℕ → Outcome
-stoodOutcome s c w = record { standing = s; degree = c .degree; taken = c .taken; spent = c .spent; witness = w }
-
 stood-given : {p n a : ℕ} {m cs poly image : List ℕ} {o : Outcome} {old : List ℕ × List ℕ} (r : Stood) → Prime p → stoodOf r ≡ given o
     → (R : StandResult p n m cs a old o (poly, image))
     → (stoodLines n r poly image ≡ standLines n (times p n m) (o .standing) o (R .poly)) × StoodFits n r poly image
 stood-given {n = n} {a} {m} {cs} {o = o} {old = old} (stood.Proved c) P q R =
     let f = R .poly in
-    let z : stoodOutcome proved c 0 ≡ o = cc in
+    let z : countedAs proved c 0 ≡ o = cc in
     let d = stand-degree P n m cs a o f (R .stand) in
     let w = written-front (c .degree + 1) (suc n) (coef f) (old .0) (omega (arith, ap (λ (o : Outcome). o .degree) z)) (R .polynomial) in (
       ap (λ l. countsLine "STAND proved" c ∷ record { word = "MINPOLY"; numbers = l } ∷ unwitnessedLine ∷ []) (w .0 ∙ ap (λ k. bytes k (coef f)) (add-one (c .degree)))
@@ -61,7 +57,7 @@ stood-given {n = n} {a} {m} {cs} {o = o} {old = old} (stood.Proved c) P q R =
 stood-given {n = n} {a} {m} {cs} {o = o} {old = old} (stood.Short c u) P q R =
     let f = R .poly in
     let X = times _ n m in
-    let z : stoodOutcome short c u ≡ o = cc in
+    let z : countedAs short c u ≡ o = cc in
     let d = stand-degree P n m cs a o f (R .stand) in
     let w = written-front (c .degree + 1) (suc n) (coef f) (old .0) (omega (arith, ap (λ (o : Outcome). o .degree) z)) (R .polynomial) in
     let v = written-front n n (act X f (e u)) (old .1) (le-refl n) (R .witness ∙ ap (λ (o : Outcome). write (bytes n (witnessRow X f (o .standing) (o .witness))) (old .1)) (sym z)) in (

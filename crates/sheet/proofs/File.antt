@@ -9,7 +9,7 @@ use mathlib.Core.List.{List, [], _∷_}
 use mathlib.Core.Option.{Option·none-ne-some, Option·some-injective}
 use Prim.Native.Nat.{ℕ, _*_, _^_, _<_, _≤_}
 use lib.ListN.{length, take}
-use Rattle.meaning.specs.Bounds.{Sound, SoundRows}
+use Rattle.meaning.specs.Bounds.{Sound, SoundRows, matrixRoom, candidateRoom}
 use Rattle.meaning.specs.Case.{Case, IsCase, allowanceOf, matrixBytes, candidateBytes, Place}
 use Rattle.meaning.specs.Line.{text}
 use Rattle.meaning.specs.Sheet.{refusedLine, SheetLines, sheet, refused}
@@ -20,7 +20,7 @@ use Rattle.text.specs.declared.Text.{Text}
 use Rattle.text.specs.Text.{IsText}
 use Rattle.casefile.specs.declared.Reading.the-variants as answer
 use Rattle.casefile.specs.declared.Contents.{Contents}
-use Rattle.casefile.specs.Reading.{matrixRoom, candidateRoom, valuesOf, readRefusal, ReadIs, reads, refuses}
+use Rattle.casefile.specs.Reading.{valuesOf, readRefusal, ReadIs, reads, refuses}
 use Rattle.casefile.proofs.Results.{read-sizes}
 use Rattle.sheet.specs.Lines.{CaseText, FileText}
 

@@ -8,13 +8,13 @@ use calls::Ordered;
 use calls::Perioded;
 use calls::Stood;
 use libc::STDIN_FILENO;
+use meaning::CANDIDATE_ROOM;
+use meaning::COEFFICIENTS;
+use meaning::MATRIX_ROOM;
+use meaning::STAGE_RECORD;
 
-// The most rows of a machine, and of a list.
-const ROWS: usize = 64;
-
-const LISTED: usize = 128;
-
-const ALLOWANCE: u32 = 8192;
+// It pays for every list.
+const ALLOWANCE: u32 = meaning::CANDIDATE_ROOM as u32;
 
 fn refuse(number: u8) {
     trial_lines::print(b"REFUSED");
@@ -155,12 +155,12 @@ fn main() {
     let mut head = [0u8; 6];
     io::read_full(STDIN_FILENO, &mut head);
     let n = head[2];
-    let mut m = [0u8; ROWS * ROWS];
+    let mut m = [0u8; MATRIX_ROOM];
     let entries = take(product(n, n), &mut m);
-    let mut cs = [0u8; LISTED * ROWS];
+    let mut cs = [0u8; CANDIDATE_ROOM];
     let listed = take(product(head[5], n), &mut cs);
-    let mut poly = [0u8; ROWS + 1];
-    let mut room = [0u8; 2 * ROWS];
+    let mut poly = [0u8; COEFFICIENTS];
+    let mut room = [0u8; STAGE_RECORD];
     call_all(
         head[0],
         two_bytes(head[3], head[4]),

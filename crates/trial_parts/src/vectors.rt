@@ -1,10 +1,11 @@
 // The functions of `rows` and `matrix`: a modulus, then matrix, polynomial or rows, each in a group of its own.
 ghost use mathlib.Core.Path.{_≡_};
 ghost use Prim.Native.Nat.{_*_, _≤_};
-ghost use Rattle.meaning.specs.Bounds.{widest};
+ghost use Rattle.meaning.specs.Bounds.{widest, matrixRoom};
 use crate::modulus;
 use crate::refuse;
 use meaning::COEFFICIENTS;
+use meaning::MATRIX_ROOM;
 use meaning::WIDEST;
 
 // Whether the line's word is one of these. If so, the function is called and its answer printed.
@@ -30,14 +31,14 @@ pub fn answered(line: &[u8]) -> bool {
 
 fn square(n: usize) -> usize
     requires { ⌜ n ≤ widest ⌝ }
-    ensures { λ r. ⌜ (r ≡ n * n) × (r ≤ 4096) ⌝ }
+    ensures { λ r. ⌜ (r ≡ n * n) × (r ≤ matrixRoom) ⌝ }
 {
     n * n
 }
 
 // p | entries: the place of the first entry that is p or more. p may be any number.
 fn bad(line: &[u8]) {
-    let mut s = [0u8; 4096];
+    let mut s = [0u8; MATRIX_ROOM];
     let given = trial_lines::fill(trial_lines::group(line, 1), &mut s);
     let n = given.count;
     if given.whole {
@@ -57,7 +58,7 @@ fn show_bad(p: u32, s: &[u8]) {
 
 // p | matrix | row
 fn advance(line: &[u8]) {
-    let mut m = [0u8; 4096];
+    let mut m = [0u8; MATRIX_ROOM];
     let matrix = trial_lines::fill(trial_lines::group(line, 1), &mut m);
     let k = matrix.count;
     let mut v = [0u8; WIDEST];
@@ -89,7 +90,7 @@ fn show_advance(p: u8, m: &[u8], v: &mut [u8]) {
 
 // p | matrix | polynomial | row
 fn image(line: &[u8]) {
-    let mut m = [0u8; 4096];
+    let mut m = [0u8; MATRIX_ROOM];
     let matrix = trial_lines::fill(trial_lines::group(line, 1), &mut m);
     let k = matrix.count;
     let mut f = [0u8; COEFFICIENTS];

@@ -13,7 +13,6 @@ use Rattle.meaning.specs.Refusal.{standRefusal}
 use Rattle.meaning.specs.Stand.{standingOf}
 use Rattle.meaning.specs.Calls.{StandResult}
 use Rattle.meaning.proofs.Bytes.{rows-below}
-use Rattle.meaning.proofs.Degrees.{below-take}
 use Rattle.meaning.proofs.Refusal.{stand-sound}
 use Rattle.meaning.proofs.Called.{refused-by, given-by}
 use Rattle.meaning.proofs.Standing.{tested-within, standing-proved, standing-short}
@@ -23,6 +22,7 @@ use Rattle.refusals.proofs.Laws.{some-number, none-number}
 use Rattle.calls.proofs.Laws.{outcomeOf, stand-written, stand-as}
 use Rattle.calls.proofs.stand.Statement.{statement}
 use Rattle.calls.proofs.stand.Tie as tie
+use Rattle.algebra.proofs.Orders.{below-take}
 
 abbrev start : tie.Else1 → tie.Start
 start c = c .before .before .before .before .before .before .before .before

@@ -10,9 +10,9 @@ use Rattle.meaning.specs.Case.{Case, IsCase, Place}
 use Rattle.meaning.specs.Line.{text}
 use Rattle.meaning.specs.Sheet.{refusedLine}
 use Rattle.meaning.proofs.SheetRoom.{refused-room}
+use Rattle.meaning.specs.Bounds.{matrixRoom, candidateRoom}
 use Rattle.text.specs.Text.{HasRoom, Appended}
 use Rattle.text.proofs.Laws.{toward-start, toward-end, line-turn, line-room, empty-room, empty-text}
-use Rattle.casefile.specs.Reading.{matrixRoom, candidateRoom}
 use Rattle.casefile.proofs.Results.{read-refused}
 use Rattle.sheet.proofs.File.{CaseRead, read-case, read-sound, case-file, refused-file}
 use borrow.Author.Needs.{needs}

@@ -1,7 +1,6 @@
 -- `trial_sheets::main` meets its contract: twice the number of pairs is a number of arguments. Measure: the pairs to come.
 -- Assumes nothing.
 use Prim.Native.Nat.{_≤_, _<_, _*_, _-_, _^_}
-use native.Mathlib.Omega.{arith}
 use borrow.Author.Needs.{needs}
 use Rattle.trial_sheets.proofs.main.Statement.{statement}
 use Rattle.trial_sheets.proofs.main.Tie as tie
