@@ -21,6 +21,7 @@ use Rattle.algebra.specs.Orders.{units, product}
 use Rattle.algebra.specs.Spin.{long, clip, tail, clipKept, newKept, spin, spinOver, orderOf, keep, chain}
 use Rattle.meaning.specs.Ascii.{ascii}
 use Rattle.meaning.specs.Bytes.{Small, tab, row, rowAt, byteRows, rows, times, bytes, e}
+use Rattle.meaning.specs.Bounds.{mostCandidates}
 use Rattle.meaning.specs.Stand.{sum, standingOf}
 use Rattle.meaning.specs.Period.{longest}
 use Rattle.meaning.specs.Refusal.{isPrime, allBelow}
@@ -66,7 +67,7 @@ pair-of : (a b : ℕ) → a < 3 → b < 3 → (length (a ∷ b ∷ []) ≡ 2) ×
 pair-of a b h k = (refl, (h, (k, tt)))
 
 -- a case of the listings is well-formed if its halves and its rows are
-well : (m cs : List (List ℕ)) (a : Option (ℕ × ℕ)) → Halves a → length m ≡ 2 → RowsOf 3 2 m → length cs ≤ 128 → RowsOf 3 2 cs → WellFormed (squares m cs a)
+well : (m cs : List (List ℕ)) (a : Option (ℕ × ℕ)) → Halves a → length m ≡ 2 → RowsOf 3 2 m → length cs ≤ mostCandidates → RowsOf 3 2 cs → WellFormed (squares m cs a)
 unfolding isPrime allBelow
 well m cs a h q r f l = record { prime = refl; least = omega arith; most = omega arith; halves = h; square = q; rows = r; few = f; listed = l }
 

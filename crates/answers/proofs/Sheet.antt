@@ -14,7 +14,7 @@ use Rattle.meaning.specs.Calls.{Answer}
 use Rattle.meaning.specs.Case.{longestCase}
 use Rattle.meaning.specs.Sheet.{IsSheet, SheetCall}
 use Rattle.meaning.proofs.CaseBytes.{case-longest, case-unique}
-use Rattle.meaning.proofs.Front.{sheet-front}
+use Rattle.meaning.proofs.LongFile.{sheet-front}
 use Rattle.meaning.proofs.Place.{place-unique}
 use Rattle.meaning.proofs.Called.{called-exists, called-unique}
 use Rattle.promises.proofs.Sheet.{sheet-found, sheet-only}

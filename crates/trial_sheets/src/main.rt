@@ -5,9 +5,12 @@ ghost use Rattle.io.specs.Counts.{Counts};
 use input::Input;
 use sheet::Sheeted;
 
+// The bytes of a name that are read.
+const NAME: usize = 64;
+
 // The name that argument i is.
 fn show_name(i: usize) {
-    let mut name = [0u8; 64];
+    let mut name = [0u8; NAME];
     let k = os::arg(i, &mut name);
     trial_lines::print(&name[..k]);
 }
@@ -16,7 +19,7 @@ fn show_name(i: usize) {
 fn load(i: usize, buf: &mut [u8]) -> Input
     ensures { λ r. ⌜ Counts (r .count) (now (buf .exit)) ⌝ }
 {
-    let mut name = [0u8; 64];
+    let mut name = [0u8; NAME];
     let k = os::arg(i, &mut name);
     let fd = os::open_read(&name[..k]);
     if fd < 0 {
