@@ -33,7 +33,7 @@ use Rattle.promises.specs.Run.{same, sameRows, firstPower, nextPower, periodFro
 use Rattle.promises.proofs.Found.{same-refl}
 use Rattle.promises.proofs.Sheet.{case-sheet}
 use Rattle.answers.specs.Listing.{Listing, Prints, Never, AllPrint, squares, eighteen, listings}
-use Rattle.answers.proofs.Sheet.{sheet-unique}
+use Rattle.promises.proofs.Sheet.{sheet-unique}
 
 -- the bytes of the case, and what the functions print for it; and what both should be
 run : Listing → List ℕ × List ℕ
@@ -49,7 +49,7 @@ unfolding run claim
 run-prints x W q =
     let i : IsCase (x .file) (x .case) = record { well-formed = W; whole = sym (ap (λ y. y .0) q) } in
     let S = subst (IsSheet (x .file)) (ap (λ y. y .1) q) (case-sheet (x .case) i) in
-    (S, λ t T. sheet-unique (x .file) t (ascii (x .print)) T S)
+    (S, λ t T. sheet-unique T S)
 
 abbrev AllWell : List Listing → Type 0
 AllWell [] = Unit {0}
@@ -133,4 +133,4 @@ unfolding digit digits decimal spaced lineBytes text
 empty-sheet = refused 0 empty-not empty-place refl
 
 pub empty-prints : IsSheet [] (ascii "REFUSED 0\n") × ((t : List ℕ) → IsSheet [] t → t ≡ ascii "REFUSED 0\n")
-empty-prints = (empty-sheet, λ t S. sheet-unique [] t (ascii "REFUSED 0\n") S empty-sheet)
+empty-prints = (empty-sheet, λ t S. sheet-unique S empty-sheet)

@@ -18,7 +18,7 @@ use Rattle.meaning.specs.Bytes.{tab, row, rowAt, byteRows, rows, times, bytes, 
 use Rattle.meaning.specs.Stand.{sum, Outcome, standingOf}
 use Rattle.meaning.specs.Period.{longest}
 use Rattle.meaning.specs.Refusal.{isPrime, allBelow}
-use Rattle.promises.specs.Figures.{Sheet, Figure, asked, written, sheet, FigureHolds, AllHold, table}
+use Rattle.promises.specs.Figures.{Columns, Figure, asked, written, columns, FigureHolds, AllHold, table}
 use Rattle.meaning.proofs.Refusal.{isPrime-prime}
 use Rattle.meaning.proofs.Unique.{stand-only, chain-only, period-only, witness-only}
 use Rattle.promises.specs.Run.{takenOf, witnessOf, ordersOf, standOrders, standTaken, standPoly, standWitness, standOf, chainOf}
@@ -32,11 +32,11 @@ alike-written = alike-elim (λ os qs. map written os ≡ map written qs) refl (�
 module _ (g : Figure) where
   open Figure g using (p, n, m, cs, a, shows)
 
-  -- a sheet depends on the polynomial and the stages through their coefficients only
-  sheet-only : (r s : Outcome) (f k : Poly p) (st ss : List (WithDegree p)) (t u : Option ℕ) → r ≡ s → coef f ≡ coef k → Alike st ss → t ≡ u
-      → sheet g r f st t ≡ sheet g s k ss u
-  unfolding sheet
-  sheet-only r s f k st ss t u q h c d = λ i. record {
+  -- the columns depend on the polynomial and the stages through their coefficients only
+  columns-only : (r s : Outcome) (f k : Poly p) (st ss : List (WithDegree p)) (t u : Option ℕ) → r ≡ s → coef f ≡ coef k → Alike st ss → t ≡ u
+      → columns g r f st t ≡ columns g s k ss u
+  unfolding columns
+  columns-only r s f k st ss t u q h c d = λ i. record {
     standing = q i .standing;
     poly = bytes (suc (q i .degree)) (h i);
     taken = asked (shows .taken) (q i .taken);
@@ -49,11 +49,11 @@ module _ (g : Figure) where
     period = asked (shows .period) (d i);
   }
 
-  -- the test of p, and the sheet that the functions give; and what both should be
-  run : Bool × Sheet
-  run = (isPrime p, sheet g (standOf p n m cs a) (standPoly p n m cs a) (chainOf p n m cs) (periodOf p n m))
+  -- the test of p, and the columns that the functions give; and what both should be
+  run : Bool × Columns
+  run = (isPrime p, columns g (standOf p n m cs a) (standPoly p n m cs a) (chainOf p n m cs) (periodOf p n m))
 
-  claim : Bool × Sheet
+  claim : Bool × Columns
   claim = (true, shows)
 
   run-holds : run ≡ claim → FigureHolds g
@@ -73,7 +73,7 @@ module _ (g : Figure) where
         period-holds = T;
         only = λ r f st t B D U.
             let s = stand-only P n m cs a r _ f _ B A in
-            sheet-only r _ f _ st _ t _ (s .0) (s .1) (chain-only P n m cs st _ D C) (period-only p n m t (periodOf p n m) U T)
+            columns-only r _ f _ st _ t _ (s .0) (s .1) (chain-only P n m cs st _ D C) (period-only p n m t (periodOf p n m) U T)
             ∙ ap (λ x. x .1) q;
       }
 
@@ -84,7 +84,7 @@ runs-hold (g ∷ gs) q = (run-holds g (cc), runs-hold gs (cc))
 table-runs : map run table ≡ map claim table
 unfolding run claim isPrime allBelow fp inv inv-steps 𝟘 𝟙 _⊕_ _⊗_ neg isZero unit 0ᵥ _+ᵥ_ _·ᵥ_ comb act coef poly _⊞_ _⊡_ _⊠_ size head
     monic divide-turn divide gcd-steps gcd lcm lcms lead deeper clear reduce units product long clip tail clipKept newKept spin spinOver
-    orderOf keep chain tab row rowAt byteRows rows times bytes e sum longest table written sheet takenOf witnessOf standingOf ordersOf
+    orderOf keep chain tab row rowAt byteRows rows times bytes e sum longest table written columns takenOf witnessOf standingOf ordersOf
     standOrders standTaken standPoly standWitness standOf chainOf same sameRows firstPower nextPower periodFrom periodOf
 table-runs = refl
 

@@ -3,7 +3,7 @@
 --   sheetLines-found       the functions of Run give the lines of a sheet
 --   case-sheet             and the sheet of a case
 --   sheet-found            a file that is a case or has a place has a sheet
---   sheet-only             a file has one sheet, where it has one case at most and one place
+--   sheet-unique           a file has one sheet
 --   sheet-room             a file of fewer than 2^64 bytes has a sheet that fits a buffer of `sheetRoom` bytes
 --   sheet-lines            however the bytes of a sheet are read as lines, these are its lines
 --   sheet-minpoly          what stands behind MINPOLY is the minimal polynomial of the file's matrix
@@ -39,6 +39,8 @@ use Rattle.meaning.proofs.Case.{case-sound, case-sound-rows}
 use Rattle.meaning.proofs.SheetRoom.{sheetLines-room, refused-room}
 use Rattle.meaning.proofs.Print.{text-injective}
 use Rattle.meaning.proofs.Sheet.{sheetLines-only, sheetLines-wordy, refused-wordy}
+use Rattle.meaning.proofs.CaseBytes.{case-unique}
+use Rattle.meaning.proofs.Place.{place-unique}
 use Rattle.promises.specs.Run.{standOf, standPoly, chainOf, periodOf, linesOf}
 use Rattle.promises.specs.Sheet.{LinesOf, Has, MinimalIn, DivisorIn}
 use Rattle.promises.proofs.Found.{stand-found, chain-found, period-found, minimal-found}
@@ -82,13 +84,13 @@ pub sheet-found : (s : List ℕ) → ((c : Case) × IsCase s c) ⊎ ((k : ℕ) �
 sheet-found s (inl (c, i)) = (_, case-sheet c i)
 sheet-found s (inr (k, n, P)) = (text (refusedLine k ∷ []), refused k n P refl)
 
-pub sheet-only : (s t u : List ℕ) → ((c d : Case) → IsCase s c → IsCase s d → c ≡ d) → ((j k : ℕ) → Place s j → Place s k → j ≡ k) → IsSheet s t → IsSheet s u → t ≡ u
-sheet-only s t u one at (sheet c xs i L q) (sheet d ys j M r) =
-    let same = sheetLines-only (case-prime i) (c .n) (matrixBytes c) (candidateBytes c) (allowanceOf c) xs ys L (subst (λ b. LinesOf b ys) (one d c j i) M) in
+pub sheet-unique : {s t u : List ℕ} → IsSheet s t → IsSheet s u → t ≡ u
+sheet-unique (sheet c xs i L q) (sheet d ys j M r) =
+    let same = sheetLines-only (case-prime i) (c .n) (matrixBytes c) (candidateBytes c) (allowanceOf c) xs ys L (subst (λ b. LinesOf b ys) (case-unique j i) M) in
     q ∙ ap text same ∙ sym r
-sheet-only s t u one at (sheet c xs i L q) (refused k n P r) = absurd (n c i)
-sheet-only s t u one at (refused k n P q) (sheet d ys j M r) = absurd (n d j)
-sheet-only s t u one at (refused j n P q) (refused k o Q r) = q ∙ ap (λ k. text (refusedLine k ∷ [])) (at j k P Q) ∙ sym r
+sheet-unique (sheet c xs i L q) (refused k n P r) = absurd (n c i)
+sheet-unique (refused k n P q) (sheet d ys j M r) = absurd (n d j)
+sheet-unique {s} (refused j n P q) (refused k o Q r) = q ∙ ap (λ k. text (refusedLine k ∷ [])) (place-unique s j k P Q) ∙ sym r
 
 allowance-bound : (a : Option (ℕ × ℕ)) → Halves a → allowanceIn a ≤ 16383
 unfolding defaultAllowance

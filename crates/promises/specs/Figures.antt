@@ -1,9 +1,9 @@
 -- The figures P1 to P11 (01, "Figures to hold it to"), as one table, and what it claims of the definitions.
---   Sheet          what a figure shows; a column that 01 leaves open is none
---   Figure         an input with its sheet
+--   Columns        what a figure shows; a column that 01 leaves open is none
+--   Figure         an input with its columns
 --   asked q x      x, where the figure gives that column
 --   written o      the coefficients of a polynomial up to the leading 1
---   sheet g ..     what the definitions give, in the columns of the figure g
+--   columns g ..   what the definitions give, in the columns of the figure g
 --   FigureHolds g        whatever the definitions permit for the input of g shows what g shows; and they permit something
 --   AllHold        every figure of a table holds
 --   figure, stand, chained   a figure from its columns
@@ -21,7 +21,7 @@ use Rattle.meaning.specs.Stand.{Standing, proved, short, Outcome, IsStand, witn
 use Rattle.meaning.specs.Chain.{IsChain}
 use Rattle.meaning.specs.Period.{IsPeriod}
 
-pub record Sheet : Type 0 where
+pub record Columns : Type 0 where
   pub standing : Standing
   pub poly : List ℕ
   pub taken : Option ℕ
@@ -39,7 +39,7 @@ pub record Figure : Type 0 where
   pub m : List ℕ
   pub cs : List ℕ
   pub a : ℕ
-  pub shows : Sheet
+  pub shows : Columns
 
 abbrev pub asked : {A : Type 0} → Option A → A → Option A
 asked none x = none
@@ -49,8 +49,8 @@ asked (some y) x = some x
 unfoldable pub written : {p : ℕ} → WithDegree p → List ℕ
 written o = bytes (suc (o .deg)) (coef (o .poly))
 
-unfoldable pub sheet : (g : Figure) → Outcome → Poly (g .p) → List (WithDegree (g .p)) → Option ℕ → Sheet
-sheet g r f st t =
+unfoldable pub columns : (g : Figure) → Outcome → Poly (g .p) → List (WithDegree (g .p)) → Option ℕ → Columns
+columns g r f st t =
     record {
       standing = r .standing;
       poly = bytes (suc (r .degree)) (coef f);
@@ -74,17 +74,17 @@ pub record FigureHolds (g : Figure) : Type 0 where
   pub period-holds : IsPeriod (g .p) (g .n) (g .m) period
   pub only : (r : Outcome) (f : Poly (g .p)) (st : List (WithDegree (g .p))) (t : Option ℕ)
       → IsStand (g .p) (g .n) (g .m) (g .cs) (g .a) r f → IsChain (g .p) (g .n) (g .m) (g .cs) st → IsPeriod (g .p) (g .n) (g .m) t
-      → sheet g r f st t ≡ g .shows
+      → columns g r f st t ≡ g .shows
 
 abbrev pub AllHold : List Figure → Type 0
 AllHold [] = Unit {0}
 AllHold (g ∷ gs) = FigureHolds g × AllHold gs
 
-abbrev pub figure : ℕ → ℕ → List ℕ → List ℕ → ℕ → Sheet → Figure
+abbrev pub figure : ℕ → ℕ → List ℕ → List ℕ → ℕ → Columns → Figure
 figure p n m cs a s = record { p = p; n = n; m = m; cs = cs; a = a; shows = s }
 
 -- the columns of the stand: standing, F, taken, spent, witness, image
-abbrev pub stand : Standing → List ℕ → Option ℕ → Option ℕ → Option ℕ → Option (List ℕ) → Sheet
+abbrev pub stand : Standing → List ℕ → Option ℕ → Option ℕ → Option ℕ → Option (List ℕ) → Columns
 stand s f t k w v =
     record {
       standing = s;
@@ -100,7 +100,7 @@ stand s f t k w v =
     }
 
 -- and beside them those of chain and period: number of stages, stages, product, period
-abbrev pub chained : Option ℕ → Option (List (List ℕ)) → Option (List ℕ) → Option (Option ℕ) → Sheet → Sheet
+abbrev pub chained : Option ℕ → Option (List (List ℕ)) → Option (List ℕ) → Option (Option ℕ) → Columns → Columns
 chained c st pr t s =
     record {
       standing = s .standing;
