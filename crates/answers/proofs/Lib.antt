@@ -1,4 +1,5 @@
 pub mod Unique
+pub mod Face
 pub mod Runs
 pub mod Demands
 pub mod Sheet

@@ -30,7 +30,7 @@ use Rattle.calls.specs.declared.Chained.the-variants as chained
 use Rattle.calls.specs.declared.Perioded.{Perioded}
 use Rattle.calls.specs.declared.Perioded.the-variants as perioded
 
-refused-only : (A : Type 0) (k j : ℕ) → _≡_ {A = Answer A} (refused k) (refused j) → k ≡ j
+pub refused-only : (A : Type 0) (k j : ℕ) → _≡_ {A = Answer A} (refused k) (refused j) → k ≡ j
 refused-only A k j e = cc
 
 pub given-only : {A : Type 0} (r s : A) → given r ≡ given s → r ≡ s

@@ -5,6 +5,7 @@
 --   number-some, number-none   the number of a refusal
 --   Numbered ts    no test of ts has the number 0
 --   some-number, none-number   a number other than 0 is that of a refusal, and 0 that of none
+--   never-zero     so no refusal has the number 0
 --   number-last, number-step, due-or   the number of a list of tests, test by test
 --   inverse-number, order-number, image-number, list-number   so for each call, after tests 1 to 3
 --   buffers-number   test 6 of two buffers, after all others
@@ -12,7 +13,7 @@
 use mathlib.Core.Path.{_≡_, refl, sym, ap, ap₂, _∙_}
 use mathlib.Core.Bool.{Bool, true, false, _||_}
 use mathlib.Core.List.{List, [], _∷_, _++_}
-use mathlib.Core.Option.{Option, none, some}
+use mathlib.Core.Option.{Option, none, some, Option·none-ne-some}
 use Prim.Native.Nat.{ℕ, zero, suc, _+_, _<_}
 use native.Mathlib.Nat.{lt-irrefl}
 use lib.Dec.{leb}
@@ -61,6 +62,9 @@ unfolding first
 none-number [] h e = refl
 none-number ((k, true) ∷ ts) h e = absurd (lt-irrefl 0 (rw (sym e) at (h .0)))
 none-number ((k, false) ∷ ts) h e = none-number ts (h .1) e
+
+pub never-zero : (ts : List (ℕ × Bool)) → Numbered ts → ¬ (first ts ≡ some 0)
+never-zero ts h e = Option·none-ne-some 0 (sym (none-number ts h (number-some (first ts) e)) ∙ e)
 
 -- the number of a list of tests
 pub number-last : (k : ℕ) (b : Bool) → numberOf (first ((k, b) ∷ [])) ≡ due k b

@@ -1,0 +1,220 @@
+// The face for C and for Rust: each call of the library under a plain name, with numbers, slices (a pointer and a length) and one struct for each
+// answer of several numbers. `refusal` is 0 where the call is answered, else the number of its refusal, and then all else is 0. What a C programmer
+// has to know is in include/kinarsop.h; nothing holds that file to this one but the trials from outside.
+ghost use mathlib.Core.List.{[], _∷_};
+ghost use Rattle.meaning.specs.Calls.{InverseCall, OrderCall, ImageCall, StandCall, ChainCall, PeriodCall};
+ghost use Rattle.meaning.specs.Sheet.{SheetCall};
+ghost use Rattle.kinarsop.specs.Face.{Alone, inverseRead, orderRead, imageRead, standNumbers, standRead, chainRead, periodRead, sheetRead};
+use calls::Chained;
+use calls::Imaged;
+use calls::Inverted;
+use calls::Ordered;
+use calls::Perioded;
+use calls::Stood;
+use sheet::Sheeted;
+
+// The refusal of an answered call.
+const ANSWERED: u8 = 0;
+
+#[repr(C)]
+pub struct InverseAnswer {
+    pub refusal: u8,
+    pub inverse: u8,
+}
+
+#[repr(C)]
+pub struct OrderAnswer {
+    pub refusal: u8,
+    pub degree: usize,
+}
+
+// The witness is counted from 1, and 0 where the stand is proved.
+#[repr(C)]
+pub struct StandAnswer {
+    pub refusal: u8,
+    pub proved: bool,
+    pub degree: usize,
+    pub taken: usize,
+    pub spent: u32,
+    pub witness: usize,
+}
+
+#[repr(C)]
+pub struct ChainAnswer {
+    pub refusal: u8,
+    pub stages: usize,
+}
+
+// The period is 0 where there is none.
+#[repr(C)]
+pub struct PeriodAnswer {
+    pub refusal: u8,
+    pub period: u32,
+}
+
+#[repr(C)]
+pub struct SheetAnswer {
+    pub refusal: u8,
+    pub length: usize,
+}
+
+#[no_mangle]
+pub extern "C" fn kinarsop_inverse(p: u32, a: u32) -> InverseAnswer
+    ensures { λ r. ⌜ InverseCall p a (inverseRead r) ⌝ }
+    ensures { λ r. ⌜ Alone (r .refusal) (r .inverse ∷ []) ⌝ }
+{
+    match calls::inverse(p, a) {
+        Inverted::Inverse(inverse) => InverseAnswer {
+            refusal: ANSWERED,
+            inverse: inverse,
+        },
+        Inverted::Refused(number) => InverseAnswer {
+            refusal: number,
+            inverse: 0,
+        },
+    }
+}
+
+#[no_mangle]
+pub extern "C" fn kinarsop_order(
+    p: u32,
+    n: usize,
+    m: &[u8],
+    v: &[u8],
+    out: &mut [u8],
+) -> OrderAnswer
+    ensures { λ r. ⌜ OrderCall p n (now (m .entry)) (now (v .entry)) (now (out .entry)) (orderRead r) (now (out .exit)) ⌝ }
+    ensures { λ r. ⌜ Alone (r .refusal) (r .degree ∷ []) ⌝ }
+{
+    match calls::order(p, n, m, v, out) {
+        Ordered::Degree(degree) => OrderAnswer {
+            refusal: ANSWERED,
+            degree: degree,
+        },
+        Ordered::Refused(number) => OrderAnswer {
+            refusal: number,
+            degree: 0,
+        },
+    }
+}
+
+// What is returned is the refusal, 0 where the image is written.
+#[no_mangle]
+pub extern "C" fn kinarsop_image(
+    p: u32,
+    n: usize,
+    m: &[u8],
+    v: &[u8],
+    f: &[u8],
+    out: &mut [u8],
+) -> u8
+    ensures { λ r. ⌜ ImageCall p n (now (m .entry)) (now (v .entry)) (now (f .entry)) (now (out .entry)) (imageRead r) (now (out .exit)) ⌝ }
+{
+    match calls::image(p, n, m, v, f, out) {
+        Imaged::Written => ANSWERED,
+        Imaged::Refused(number) => number,
+    }
+}
+
+#[no_mangle]
+pub extern "C" fn kinarsop_stand(
+    p: u32,
+    n: usize,
+    m: &[u8],
+    cs: &[u8],
+    allowance: u32,
+    poly: &mut [u8],
+    image: &mut [u8],
+) -> StandAnswer
+    ensures { λ r. ⌜ StandCall p n (now (m .entry)) (now (cs .entry)) allowance (now (poly .entry), now (image .entry)) (standRead r) (now (poly .exit), now (image .exit)) ⌝ }
+    ensures { λ r. ⌜ Alone (r .refusal) (standNumbers r) ⌝ }
+{
+    match calls::stand(p, n, m, cs, allowance, poly, image) {
+        Stood::Proved(counts) => StandAnswer {
+            refusal: ANSWERED,
+            proved: true,
+            degree: counts.degree,
+            taken: counts.taken,
+            spent: counts.spent,
+            witness: 0,
+        },
+        Stood::Short(counts, witness) => StandAnswer {
+            refusal: ANSWERED,
+            proved: false,
+            degree: counts.degree,
+            taken: counts.taken,
+            spent: counts.spent,
+            witness: witness,
+        },
+        Stood::Refused(number) => StandAnswer {
+            refusal: number,
+            proved: false,
+            degree: 0,
+            taken: 0,
+            spent: 0,
+            witness: 0,
+        },
+    }
+}
+
+#[no_mangle]
+pub extern "C" fn kinarsop_chain(
+    p: u32,
+    n: usize,
+    m: &[u8],
+    cs: &[u8],
+    product: &mut [u8],
+    stages: &mut [u8],
+) -> ChainAnswer
+    ensures { λ r. ⌜ ChainCall p n (now (m .entry)) (now (cs .entry)) (now (product .entry), now (stages .entry)) (chainRead r) (now (product .exit), now (stages .exit)) ⌝ }
+    ensures { λ r. ⌜ Alone (r .refusal) (r .stages ∷ []) ⌝ }
+{
+    match calls::chain(p, n, m, cs, product, stages) {
+        Chained::Stages(count) => ChainAnswer {
+            refusal: ANSWERED,
+            stages: count,
+        },
+        Chained::Refused(number) => ChainAnswer {
+            refusal: number,
+            stages: 0,
+        },
+    }
+}
+
+#[no_mangle]
+pub extern "C" fn kinarsop_period(p: u32, n: usize, m: &[u8]) -> PeriodAnswer
+    ensures { λ r. ⌜ PeriodCall p n (now (m .entry)) (periodRead r) ⌝ }
+    ensures { λ r. ⌜ Alone (r .refusal) (r .period ∷ []) ⌝ }
+{
+    match calls::period(p, n, m) {
+        Perioded::Least(t) => PeriodAnswer {
+            refusal: ANSWERED,
+            period: t,
+        },
+        Perioded::Never => PeriodAnswer {
+            refusal: ANSWERED,
+            period: 0,
+        },
+        Perioded::Refused(number) => PeriodAnswer {
+            refusal: number,
+            period: 0,
+        },
+    }
+}
+
+#[no_mangle]
+pub extern "C" fn kinarsop_sheet(file: &[u8], out: &mut [u8]) -> SheetAnswer
+    ensures { λ r. ⌜ SheetCall (now (file .entry)) (now (out .entry)) (sheetRead r) (now (out .exit)) ⌝ }
+    ensures { λ r. ⌜ Alone (r .refusal) (r .length ∷ []) ⌝ }
+{
+    match sheet::sheet(file, out) {
+        Sheeted::Length(length) => SheetAnswer {
+            refusal: ANSWERED,
+            length: length,
+        },
+        Sheeted::Refused(number) => SheetAnswer {
+            refusal: number,
+            length: 0,
+        },
+    }
+}
