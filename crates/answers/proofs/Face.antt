@@ -17,7 +17,7 @@ use Rattle.meaning.specs.Calls.{Answer, InverseCall, OrderCall, ImageCall, Stan
 use Rattle.meaning.specs.Sheet.{SheetCall}
 use Rattle.meaning.proofs.Called.{refused-given}
 use Rattle.promises.proofs.Calls.{inverse-unique, order-unique, image-unique, stand-unique, chain-unique, period-unique}
-use Rattle.kinarsop.specs.Face.{readAs, Alone, standingIn, periodOf, inverseRead, orderRead, imageRead, standNumbers, standRead, chainRead, periodRead, sheetRead}
+use Rattle.kinarsop.specs.Face.{readAs, Alone, standingIn, periodIn, inverseRead, orderRead, imageRead, standNumbers, standRead, chainRead, periodRead, sheetRead}
 use Rattle.kinarsop.specs.declared.InverseAnswer.{InverseAnswer}
 use Rattle.kinarsop.specs.declared.OrderAnswer.{OrderAnswer}
 use Rattle.kinarsop.specs.declared.StandAnswer.{StandAnswer}
@@ -61,7 +61,7 @@ sheet-fields r s e A B =
     let x = alone-path _ _ _ _ k h A B in
     λ i. record { refusal = k i; length = x i }
 
-period-only : (t u : ℕ) → periodOf t ≡ periodOf u → t ≡ u
+period-only : (t u : ℕ) → periodIn t ≡ periodIn u → t ≡ u
 period-only zero zero e = refl
 period-only zero (suc u) e = absurd (Option·none-ne-some (suc u) e)
 period-only (suc t) zero e = absurd (Option·none-ne-some (suc t) (sym e))

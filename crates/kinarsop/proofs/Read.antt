@@ -9,13 +9,13 @@ use Prim.Native.Nat.{ℕ, zero, suc}
 use native.Mathlib.Nat.{lt-irrefl}
 use Rattle.meaning.specs.Calls.{refused, given, Called, PeriodCall}
 use Rattle.meaning.proofs.Called.{called-refused, called-given}
-use Rattle.kinarsop.specs.Face.{readAs, periodOf}
+use Rattle.kinarsop.specs.Face.{readAs, periodIn}
 
 pub refused-read : {A B : Type 0} {R : A → B → Type 0} {q : Option ℕ} {old new : B} (k : ℕ) (x : A) → ¬ (q ≡ some 0)
     → Called q R old (refused k) new → Called q R old (readAs k x) new
 refused-read zero x h C = absurd (h (called-refused C .0))
 refused-read (suc k) x h C = C
 
-pub least-read : (p n : ℕ) (m : List ℕ) (t : ℕ) → PeriodCall p n m (given (some t)) → PeriodCall p n m (given (periodOf t))
+pub least-read : (p n : ℕ) (m : List ℕ) (t : ℕ) → PeriodCall p n m (given (some t)) → PeriodCall p n m (given (periodIn t))
 least-read p n m zero C = absurd (lt-irrefl 0 (called-given C .1 .0))
 least-read p n m (suc t) C = C

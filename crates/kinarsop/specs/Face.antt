@@ -3,7 +3,7 @@
 --   AllZero xs        every number of xs is 0
 --   Alone k xs        a refusal stands alone: where k is not 0, the other numbers xs of the answer are 0
 --   standingIn b      proved where b is true, else short
---   periodOf t        none where t is 0, else the period t
+--   periodIn t        none where t is 0, else the period t
 --   standNumbers r    what a stand's answer has beside its refusal, the mark proved as 1
 --   inverseRead, orderRead, imageRead, standRead, chainRead, periodRead, sheetRead   the answer of each call, read off what its function returns
 -- Assumes nothing.
@@ -36,9 +36,9 @@ abbrev pub standingIn : Bool → Standing
 standingIn true = proved
 standingIn false = short
 
-abbrev pub periodOf : ℕ → Option ℕ
-periodOf zero = none
-periodOf (suc t) = some (suc t)
+abbrev pub periodIn : ℕ → Option ℕ
+periodIn zero = none
+periodIn (suc t) = some (suc t)
 
 abbrev pub inverseRead : InverseAnswer → Answer ℕ
 inverseRead r = readAs (r .refusal) (r .inverse)
@@ -62,7 +62,7 @@ abbrev pub chainRead : ChainAnswer → Answer ℕ
 chainRead r = readAs (r .refusal) (r .stages)
 
 abbrev pub periodRead : PeriodAnswer → Answer (Option ℕ)
-periodRead r = readAs (r .refusal) (periodOf (r .period))
+periodRead r = readAs (r .refusal) (periodIn (r .period))
 
 abbrev pub sheetRead : SheetAnswer → Answer ℕ
 sheetRead r = readAs (r .refusal) (r .length)

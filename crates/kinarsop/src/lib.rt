@@ -1,11 +1,14 @@
 // The face for C and for Rust: each call of the library under a plain name, with numbers, slices (a pointer and a length) and one struct for each
 // answer of several numbers. `refusal` is 0 where the call is answered, else the number of its refusal, and then all else is 0. What a C programmer
 // has to know is in include/kinarsop.h; nothing holds that file to this one but the trials from outside.
+ghost use mathlib.Core.Path.{_≡_};
 ghost use mathlib.Core.List.{[], _∷_};
-ghost use Rattle.meaning.specs.Calls.{InverseCall, OrderCall, ImageCall, StandCall, ChainCall, PeriodCall};
+ghost use Rattle.meaning.specs.Calls.{given, InverseCall, OrderCall, ImageCall, StandCall, ChainCall, PeriodCall};
 ghost use Rattle.meaning.specs.Sheet.{SheetCall};
-ghost use Rattle.kinarsop.specs.Face.{Alone, inverseRead, orderRead, imageRead, standNumbers, standRead, chainRead, periodRead, sheetRead};
+ghost use Rattle.calls.specs.Answers.{countedAs};
+ghost use Rattle.kinarsop.specs.Face.{Alone, standingIn, inverseRead, orderRead, imageRead, standNumbers, standRead, chainRead, periodRead, sheetRead};
 use calls::Chained;
+use calls::Counts;
 use calls::Imaged;
 use calls::Inverted;
 use calls::Ordered;
@@ -116,6 +119,21 @@ pub extern "C" fn kinarsop_image(
     }
 }
 
+// The answer of a stand that is not refused.
+fn counted(proved: bool, counts: Counts, witness: usize) -> StandAnswer
+    ensures { λ r. ⌜ standRead r ≡ given (countedAs (standingIn proved) counts witness) ⌝ }
+    ensures { λ r. ⌜ r .refusal ≡ 0 ⌝ }
+{
+    StandAnswer {
+        refusal: ANSWERED,
+        proved: proved,
+        degree: counts.degree,
+        taken: counts.taken,
+        spent: counts.spent,
+        witness: witness,
+    }
+}
+
 #[no_mangle]
 pub extern "C" fn kinarsop_stand(
     p: u32,
@@ -130,22 +148,8 @@ pub extern "C" fn kinarsop_stand(
     ensures { λ r. ⌜ Alone (r .refusal) (standNumbers r) ⌝ }
 {
     match calls::stand(p, n, m, cs, allowance, poly, image) {
-        Stood::Proved(counts) => StandAnswer {
-            refusal: ANSWERED,
-            proved: true,
-            degree: counts.degree,
-            taken: counts.taken,
-            spent: counts.spent,
-            witness: 0,
-        },
-        Stood::Short(counts, witness) => StandAnswer {
-            refusal: ANSWERED,
-            proved: false,
-            degree: counts.degree,
-            taken: counts.taken,
-            spent: counts.spent,
-            witness: witness,
-        },
+        Stood::Proved(counts) => counted(true, counts, 0),
+        Stood::Short(counts, witness) => counted(false, counts, witness),
         Stood::Refused(number) => StandAnswer {
             refusal: number,
             proved: false,

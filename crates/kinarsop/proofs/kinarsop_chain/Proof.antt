@@ -52,8 +52,21 @@ same-length-4 c = search needs
 returns-2 : tie.Need-returns-2
 unfolding chainRefusal
 returns-2 c =
-    let C = c .before .before .before .before .before .before .before in
-    (refused-read _ _ (never-zero _ (omega arith)) (subst (Met (start C) _) (c .before .number .given .1) (C .chain .ensures)), λ h. (refl, tt))
+    let C = c .before .before .before .before .before .before .before in (
+      refused-read _ _ (never-zero _ (omega arith)) (subst (Met (start C) _) (c .before .number .given .1) (C .chain .ensures)),
+      λ h. (refl, tt),
+    )
 
 pub kinarsop-chain-spec : {M : Type 1} → statement M
-kinarsop-chain-spec = tie.close (tie.spec chain-requires enum-known-count enum-known-number same-length same-length-2 returns same-length-3 same-length-4 returns-2)
+kinarsop-chain-spec =
+    tie.close
+    (tie.spec
+    chain-requires
+    enum-known-count
+    enum-known-number
+    same-length
+    same-length-2
+    returns
+    same-length-3
+    same-length-4
+    returns-2)

@@ -50,4 +50,13 @@ returns-2 c =
     refused-read _ _ (never-zero _ (omega arith)) (subst (Met (start C) _) (c .before .number .given .1) (C .image .ensures))
 
 pub kinarsop-image-spec : {M : Type 1} → statement M
-kinarsop-image-spec = tie.close (tie.spec image-requires enum-told enum-known-number same-length returns same-length-2 returns-2)
+kinarsop-image-spec =
+    tie.close
+    (tie.spec
+    image-requires
+    enum-told
+    enum-known-number
+    same-length
+    returns
+    same-length-2
+    returns-2)

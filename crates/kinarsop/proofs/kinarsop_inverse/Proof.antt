@@ -36,8 +36,10 @@ returns c =
 returns-2 : tie.Need-returns-2
 unfolding inverseRefusal
 returns-2 c =
-    let C = c .before .before .before in
-    (refused-read _ _ (never-zero _ (omega arith)) (subst (Met (start C)) (c .before .number .given .1) (C .inverse .ensures)), λ h. (refl, tt))
+    let C = c .before .before .before in (
+      refused-read _ _ (never-zero _ (omega arith)) (subst (Met (start C)) (c .before .number .given .1) (C .inverse .ensures)),
+      λ h. (refl, tt),
+    )
 
 pub kinarsop-inverse-spec : {M : Type 1} → statement M
 kinarsop-inverse-spec = tie.close (tie.spec inverse-requires enum-known-inverse enum-known-number returns returns-2)

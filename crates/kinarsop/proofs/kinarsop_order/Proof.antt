@@ -46,8 +46,19 @@ same-length-2 c = search needs
 returns-2 : tie.Need-returns-2
 unfolding orderRefusal
 returns-2 c =
-    let C = c .before .before .before .before .before in
-    (refused-read _ _ (never-zero _ (omega arith)) (subst (Met (start C) _) (c .before .number .given .1) (C .order .ensures)), λ h. (refl, tt))
+    let C = c .before .before .before .before .before in (
+      refused-read _ _ (never-zero _ (omega arith)) (subst (Met (start C) _) (c .before .number .given .1) (C .order .ensures)),
+      λ h. (refl, tt),
+    )
 
 pub kinarsop-order-spec : {M : Type 1} → statement M
-kinarsop-order-spec = tie.close (tie.spec order-requires enum-known-degree enum-known-number same-length returns same-length-2 returns-2)
+kinarsop-order-spec =
+    tie.close
+    (tie.spec
+    order-requires
+    enum-known-degree
+    enum-known-number
+    same-length
+    returns
+    same-length-2
+    returns-2)

@@ -47,8 +47,19 @@ returns-2 c =
 returns-3 : tie.Need-returns-3
 unfolding periodRefusal
 returns-3 c =
-    let C = c .before .before .before in
-    (refused-read _ _ (never-zero _ (omega arith)) (subst (Met (start C)) (c .before .number .given .1) (C .period .ensures)), λ h. (refl, tt))
+    let C = c .before .before .before in (
+      refused-read _ _ (never-zero _ (omega arith)) (subst (Met (start C)) (c .before .number .given .1) (C .period .ensures)),
+      λ h. (refl, tt),
+    )
 
 pub kinarsop-period-spec : {M : Type 1} → statement M
-kinarsop-period-spec = tie.close (tie.spec period-requires enum-known-t enum-told enum-known-number returns returns-2 returns-3)
+kinarsop-period-spec =
+    tie.close
+    (tie.spec
+    period-requires
+    enum-known-t
+    enum-told
+    enum-known-number
+    returns
+    returns-2
+    returns-3)

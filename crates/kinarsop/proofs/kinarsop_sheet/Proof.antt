@@ -42,8 +42,19 @@ same-length-2 c = search needs
 
 returns-2 : tie.Need-returns-2
 returns-2 c =
-    let C = c .before .before .before .before .before in
-    (refused-read _ _ (never-zero _ (omega arith)) (subst (Met (start C) _) (c .before .number .given .1) (C .sheet .ensures)), λ h. (refl, tt))
+    let C = c .before .before .before .before .before in (
+      refused-read _ _ (never-zero _ (omega arith)) (subst (Met (start C) _) (c .before .number .given .1) (C .sheet .ensures)),
+      λ h. (refl, tt),
+    )
 
 pub kinarsop-sheet-spec : {M : Type 1} → statement M
-kinarsop-sheet-spec = tie.close (tie.spec sheet-requires enum-known-length enum-known-number same-length returns same-length-2 returns-2)
+kinarsop-sheet-spec =
+    tie.close
+    (tie.spec
+    sheet-requires
+    enum-known-length
+    enum-known-number
+    same-length
+    returns
+    same-length-2
+    returns-2)
