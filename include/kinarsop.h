@@ -11,20 +11,21 @@
 
    BYTES. An entry is one byte from 0 to p - 1. A matrix is lent row after row, a list of rows too,
    with nothing between or behind the rows. A row acts from the left: the state after one tick is
-   v M, so row i of M is where unit row i goes. Unit row i has 1 at place i, counted from 1, and 0
+   v*M, so row i of M is where unit row i goes. Unit row i has 1 at place i, counted from 1, and 0
    elsewhere. A polynomial is listed from its lowest coefficient on: 1 0 1 is 1 + x^2.
 
    EVERY CALL answers for all numbers and all bytes lent.
    - It is refused by number where something is wrong: the first number that applies in the
      sequence of kinarsop_refusal below. `refusal` is 0 where it is answered.
    - A refused call changes no byte lent, and every other field of its answer is 0 (false).
-   - A length says how many bytes may be read or written from its pointer on. It has to be true:
-     this is the one thing that a call cannot test.
-   - The pointer of length 0 may be NULL.
-   - The slices lent to one call may not overlap.
+   - A length says how many bytes may be read or written from its pointer on. The pointer of length
+     0 may be NULL. The slices lent to one call may not overlap. This is the caller's part: no call
+     can test it.
    - A result buffer may be longer than asked; the bytes behind what is written stay as they were.
    - Nothing is kept between calls and no heap is used. Several threads may call at once, as long
-     as none of them writes to bytes that are lent to another's call. */
+     as none of them writes to bytes that are lent to another's call.
+   - Stack, as measured: up to 34 KiB, in the period 70 KiB, in the sheet 108 KiB. 256 KiB are
+     ample for a thread. */
 #ifndef KINARSOP_H
 #define KINARSOP_H
 
@@ -46,7 +47,7 @@ enum kinarsop_refusal {
     KINARSOP_NO_PRIME = 1,
     /* n is not 1 to 64. Give the number of rows; larger machines are not covered. */
     KINARSOP_NO_SIZE = 2,
-    /* The matrix has not n n bytes. Lend its rows one after another, a byte an entry. */
+    /* The matrix has not n*n bytes. Lend its rows one after another, a byte an entry. */
     KINARSOP_NO_MATRIX = 3,
     /* One row: its length is not n. Lend n bytes.
        A list: its length is no multiple of n. Lend n bytes a row.
@@ -88,9 +89,9 @@ struct kinarsop_inverse_answer {
 
 struct kinarsop_inverse_answer kinarsop_inverse(uint32_t p, uint32_t a);
 
-/* The order of the row v: the monic polynomial f of least degree with v f(M) = 0. The order of the
+/* The order of the row v: the monic polynomial f of least degree with v*f(M) = 0. The order of the
    zero row is 1.
-     m    the matrix, n n bytes
+     m    the matrix, n*n bytes
      v    the row, n bytes
      out  at least n + 1 bytes; gets the n + 1 coefficients, zeros above the degree
    `degree` is 0 to n; out[degree] is then 1.
@@ -104,8 +105,8 @@ struct kinarsop_order_answer kinarsop_order(uint32_t p, size_t n, const uint8_t 
                                             size_t m_length, const uint8_t *v, size_t v_length,
                                             uint8_t *out, size_t out_length);
 
-/* The image v f(M) of a row under a polynomial.
-     m    the matrix, n n bytes
+/* The image v*f(M) of a row under a polynomial.
+     m    the matrix, n*n bytes
      v    the row, n bytes
      f    the polynomial, 1 to 65 coefficients; the leading ones may be 0
      out  at least n bytes; gets the n entries of the image
@@ -119,7 +120,7 @@ uint8_t kinarsop_image(uint32_t p, size_t n, const uint8_t *m, size_t m_length, 
 /* The stand. Candidates are taken from the front of the list; each costs as many products as the
    degree of its order, and the first that would go over the allowance ends the list. F is the
    least common multiple of the orders of those taken, and 1 where none is.
-     m          the matrix, n n bytes
+     m          the matrix, n*n bytes
      cs         the candidates, 0 to 128 rows of n bytes; cs_length is the number of all bytes
      allowance  any number; KINARSOP_FULL_ALLOWANCE pays for every list
      poly       at least n + 1 bytes; gets the n + 1 coefficients of F, zeros above the degree
@@ -156,12 +157,12 @@ struct kinarsop_stand_answer kinarsop_stand(uint32_t p, size_t n, const uint8_t 
 
 /* The chain of relative orders. W starts as zero. The candidates and then the unit rows are looked
    at, each in its turn: a row in W is passed over; any other gives a stage, its order over W (the
-   monic polynomial f of least degree with v f(M) in W), and W grows by the row and its products
+   monic polynomial f of least degree with v*f(M) in W), and W grows by the row and its products
    with the powers of M. The degrees of the stages sum to n.
-     m        the matrix, n n bytes
+     m        the matrix, n*n bytes
      cs       the candidates, 0 to 128 rows of n bytes; cs_length is the number of all bytes
      product  at least n + 1 bytes; gets the n + 1 coefficients of the product of the stages
-     stages   at least 2 n bytes; gets 2 n bytes: stage after stage its degree and then so many
+     stages   at least 2*n bytes; gets 2*n bytes: stage after stage its degree and then so many
               coefficients, the leading 1 left out; behind the last stage zeros
    `stages` of the answer is the number of stages, 1 to n.
    Refused by 1 (p), 2 (n), 3 (m_length), 4 (cs_length), 5 (an entry of m or cs), 6
@@ -186,7 +187,7 @@ struct kinarsop_chain_answer kinarsop_chain(uint32_t p, size_t n, const uint8_t 
                                             uint8_t *stages, size_t stages_length);
 
 /* The period: the least t from 1 to 65,536 with M to the t the identity.
-     m  the matrix, n n bytes
+     m  the matrix, n*n bytes
    `period` is that t. 0 (and refusal 0): there is none; M is singular, or comes round later.
    Refused by 1 (p), 2 (n), 3 (m_length), 5 (an entry of m). */
 struct kinarsop_period_answer {

@@ -28,7 +28,7 @@ static const char *meaning(uint8_t refusal)
     case KINARSOP_NO_SIZE:
         return "n is not 1 to 64";
     case KINARSOP_NO_MATRIX:
-        return "the matrix has not n n bytes";
+        return "the matrix has not n*n bytes";
     case KINARSOP_NO_ROWS:
         return "the list is no whole number of rows, or has over 128";
     case KINARSOP_NO_ENTRY:
