@@ -199,8 +199,8 @@ struct kinarsop_period_answer kinarsop_period(uint32_t p, size_t n, const uint8_
                                               size_t m_length);
 
 /* The sheet of a case file, as text.
-     file  the bytes of the file, any number of them; bytes from KINARSOP_LONGEST_CASE + 1 on may
-           be left out, the text is the same
+     file  the bytes of the file, any number of them; the first KINARSOP_LONGEST_CASE + 1 are
+           enough: with more the text is the same
      out   at least KINARSOP_SHEET_ROOM bytes, whatever the file is; gets the text at its front
    `length` is that of the text: lines of ASCII, each with its newline, no 0 behind the last.
    A file that is no case is answered too: its text is the one line REFUSED and the place.
