@@ -1,6 +1,6 @@
 //! The machines that the benchmark goes through: each family once for every p and n where it exists, in its own basis and in a random one.
-use crate::naive::{companion, identity, inverse, multiply, opposite, Matrix, Poly};
-use crate::numbers::Numbers;
+use independent::naive::{companion, identity, inverse, multiply, opposite, Matrix, Poly};
+use independent::numbers::Numbers;
 
 pub struct Family {
     pub name: &'static str,
@@ -119,7 +119,7 @@ fn blocks(n: usize, list: &[Matrix]) -> Matrix {
 
 /// Two copies at least.
 fn copies(numbers: &mut Numbers, p: u64, n: usize, size: usize) -> Option<Matrix> {
-    if n % size != 0 || n == size {
+    if !n.is_multiple_of(size) || n == size {
         return None;
     }
     let block = companion(&numbers.row(p, size));
@@ -316,7 +316,7 @@ fn stretch(p: u64, m: &mut Matrix, i: usize, k: u64) {
 #[cfg(test)]
 mod tests {
     use super::*;
-    use crate::naive::{minimal_polynomial, period};
+    use independent::naive::{minimal_polynomial, period};
 
     #[test]
     fn every_family_is_a_matrix_modulo_p() {

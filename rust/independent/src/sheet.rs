@@ -1,7 +1,8 @@
 //! The data sheet that the program `stand` prints for a case, by the independent implementation.
 use crate::case::Case;
+use crate::grammar;
 use crate::lines::list;
-use crate::naive;
+use crate::naive::{self, Row};
 
 pub fn sheet(case: &Case) -> String {
     let (p, n) = (case.p, case.matrix.len());
@@ -30,17 +31,39 @@ pub fn sheet(case: &Case) -> String {
     lines.join("\n")
 }
 
-/// What the program prints for a file.
-pub fn printed(file: &[u8]) -> String {
-    match Case::read(file) {
+fn text(read: Result<Case, usize>) -> String {
+    match read {
         Ok(case) => sheet(&case),
         Err(place) => format!("REFUSED {place}\n"),
     }
 }
 
+/// What the program prints for a file, which is read by the shapes of a case.
+pub fn printed(file: &[u8]) -> String {
+    text(Case::read(file))
+}
+
+/// The same, but the file is read by the grammar, which takes much less time.
+pub fn printed_by_grammar(file: &[u8]) -> String {
+    text(read_by_grammar(file))
+}
+
+/// The case in a file, its allowance as if it were stated, or the place where the file stops being a well-formed case.
+fn read_by_grammar(file: &[u8]) -> Result<Case, usize> {
+    let file: Row = file.iter().map(|&x| x.into()).collect();
+    let case = grammar::values(&file).ok_or_else(|| grammar::place(&file))?;
+    let rows = |list: &[u64]| list.chunks(case.n as usize).map(<[u64]>::to_vec).collect();
+    Ok(Case {
+        p: case.p,
+        matrix: rows(&case.matrix),
+        candidates: rows(&case.candidates),
+        stated: Some(case.allowance),
+    })
+}
+
 #[cfg(test)]
 mod tests {
-    use super::printed;
+    use super::*;
 
     #[test]
     fn eighteen_bytes() {
@@ -57,20 +80,37 @@ mod tests {
             "PERIOD 4",
             "",
         ];
-        assert_eq!(printed(&file), lines.join("\n"));
-        assert_eq!(printed(&[]), "REFUSED 0\n");
+        for printed in [printed, printed_by_grammar] {
+            assert_eq!(printed(&file), lines.join("\n"));
+            assert_eq!(printed(&[]), "REFUSED 0\n");
+        }
     }
 
+    /// What was read, its allowance as if it were stated.
+    fn stating(read: Result<Case, usize>) -> Result<Case, usize> {
+        read.map(|case| Case {
+            stated: Some(case.allowance()),
+            ..case
+        })
+    }
+
+    /// The samples print their stored sheets, and both readers read them alike.
     #[test]
     fn sample_cases() {
-        let folder = concat!(env!("CARGO_MANIFEST_DIR"), "/../cases");
+        let folder = concat!(env!("CARGO_MANIFEST_DIR"), "/../../cases");
         let mut count = 0;
         for entry in std::fs::read_dir(folder).expect("the samples are there") {
             let path = entry.expect("a sample").path();
             if path.extension().is_some_and(|e| e == "case") {
                 let file = std::fs::read(&path).expect("a case");
                 let stored = std::fs::read_to_string(path.with_extension("sheet"));
-                assert_eq!(printed(&file), stored.expect("its sheet"), "{path:?}");
+                let stored = stored.expect("its sheet");
+                assert_eq!(printed(&file), stored, "{path:?}");
+                assert_eq!(
+                    read_by_grammar(&file),
+                    stating(Case::read(&file)),
+                    "{path:?}"
+                );
                 count += 1;
             }
         }

@@ -10,8 +10,8 @@
 //!     steps  file    every step from the front on; the last, which hands out no record, twice
 //!
 //! The weight of an array is the sum of its bytes, each times its place. Zeros behind the values add nothing to it.
-use kinarsop::grammar::{self, Record};
-use kinarsop::lines::{self, list, Line};
+use independent::grammar::{self, Record};
+use independent::lines::{self, list, Line};
 
 /// A list of bytes.
 fn bytes<'a>(line: &'a Line, k: usize) -> &'a [u64] {

@@ -1,17 +1,12 @@
-//! Runs the program `stand` on many made cases and holds what it prints to the independent implementation, byte for byte:
-//!
-//!     compare CASES SEED PROGRAM..
-//!
-//! PROGRAM is the command that runs `stand`, an emulator's words first where it needs one. Machines of every kind below are made, with candidates and
-//! allowances of every kind; two files in five are damaged afterwards. At the first difference the file, what was expected and what was printed
-//! are shown, and the status is 1. Else the counts are printed, of cases by what the sheet says and by the kind of machine.
-use kinarsop::case::{Case, MOST_CANDIDATES};
-use kinarsop::lines::list;
-use kinarsop::naive::{companion, identity, is_prime, times_matrix, unit_row, Matrix, Row};
-use kinarsop::numbers::Numbers;
-use kinarsop::program::Program;
-use kinarsop::sheet::printed;
-use std::collections::BTreeMap;
+//! Cases that look random and are the same in every run: machines of many kinds, with candidates and allowances of many kinds, and files with faults.
+use independent::case::{Case, MOST_CANDIDATES};
+use independent::naive::{companion, identity, is_prime, times_matrix, unit_row, Matrix, Row};
+use independent::numbers::Numbers;
+
+/// Every modulus that a call takes.
+pub fn primes() -> Vec<u64> {
+    (2..=251).filter(|&p| is_prime(p)).collect()
+}
 
 fn zeros(n: usize) -> Matrix {
     vec![vec![0; n]; n]
@@ -163,7 +158,7 @@ fn conjugate(numbers: &mut Numbers, p: u64, m: &mut Matrix) {
     }
 }
 
-fn candidates(numbers: &mut Numbers, p: u64, m: &Matrix) -> Vec<Row> {
+pub fn candidates(numbers: &mut Numbers, p: u64, m: &Matrix) -> Vec<Row> {
     let n = m.len();
     let most = if n <= 6 && numbers.once_in(20) {
         MOST_CANDIDATES
@@ -197,8 +192,18 @@ fn stated(numbers: &mut Numbers, n: usize) -> Option<u64> {
     }
 }
 
-/// A case, and the name of its machine's kind.
-fn made(numbers: &mut Numbers, primes: &[u64]) -> (Case, &'static str) {
+/// A machine, and the name of its kind.
+pub fn machine(numbers: &mut Numbers, p: u64, n: usize) -> (Matrix, &'static str) {
+    let (name, kind) = numbers.one_of(&KINDS);
+    let mut matrix = kind(numbers, p, n);
+    if numbers.once_in(2) {
+        conjugate(numbers, p, &mut matrix);
+    }
+    (matrix, name)
+}
+
+/// A case of some size, and the name of its machine's kind.
+pub fn case(numbers: &mut Numbers, primes: &[u64]) -> (Case, &'static str) {
     let p = match numbers.below(4) {
         0 => 2,
         1 => numbers.one_of(&[3, 5, 7]),
@@ -210,11 +215,12 @@ fn made(numbers: &mut Numbers, primes: &[u64]) -> (Case, &'static str) {
         2..=6 => 13 + numbers.place(18),
         _ => 1 + numbers.place(12),
     };
-    let (name, kind) = numbers.one_of(&KINDS);
-    let mut matrix = kind(numbers, p, n);
-    if numbers.once_in(2) {
-        conjugate(numbers, p, &mut matrix);
-    }
+    case_of(numbers, p, n)
+}
+
+/// A case of n rows modulo p, and the name of its machine's kind.
+pub fn case_of(numbers: &mut Numbers, p: u64, n: usize) -> (Case, &'static str) {
+    let (matrix, name) = machine(numbers, p, n);
     let case = Case {
         p,
         candidates: candidates(numbers, p, &matrix),
@@ -307,7 +313,7 @@ fn smudge(numbers: &mut Numbers, file: &mut Vec<u8>) {
 }
 
 /// The file with a fault in its records, in its bytes or both.
-fn damaged_file(numbers: &mut Numbers, case: &Case) -> Vec<u8> {
+pub fn damaged(numbers: &mut Numbers, case: &Case) -> Vec<u8> {
     let faults = numbers.one_of(&[
         (true, 0),
         (true, 0),
@@ -326,76 +332,21 @@ fn damaged_file(numbers: &mut Numbers, case: &Case) -> Vec<u8> {
     }
     file
 }
+#[cfg(test)]
+mod tests {
+    use super::*;
+    use independent::sheet::{printed, printed_by_grammar};
 
-/// What a printed sheet is counted under.
-fn sort(sheet: &str) -> &'static str {
-    let never = sheet.ends_with("PERIOD none\n");
-    if sheet.starts_with("REFUSED") {
-        "refused"
-    } else if sheet.contains("STAND proved") {
-        if never {
-            "proved, period none"
-        } else {
-            "proved, period a number"
+    /// The two readers of the independent implementation, on sound files and on damaged ones.
+    #[test]
+    fn shapes_and_grammar_print_the_same() {
+        let mut numbers = Numbers(1);
+        for _ in 0..150 {
+            let (case, _) = case_of(&mut numbers, 2, 3);
+            let files = [case.bytes(), damaged(&mut numbers, &case)];
+            for file in files {
+                assert_eq!(printed_by_grammar(&file), printed(&file), "{file:?}");
+            }
         }
-    } else if never {
-        "short, period none"
-    } else {
-        "short, period a number"
-    }
-}
-
-fn main() {
-    let words: Vec<String> = std::env::args().skip(1).collect();
-    let (Some(Ok(cases)), Some(Ok(seed)), Some(_)) = (
-        words.first().map(|w| w.parse::<u64>()),
-        words.get(1).map(|w| w.parse::<u64>()),
-        words.get(2),
-    ) else {
-        eprintln!("usage: compare CASES SEED PROGRAM..");
-        std::process::exit(2);
-    };
-    let program = Program(words[2..].to_vec());
-    let primes: Vec<u64> = (2..=251).filter(|&p| is_prime(p)).collect();
-    let mut numbers = Numbers(seed);
-    let mut sorts: BTreeMap<String, u64> = BTreeMap::new();
-    for number in 0..cases {
-        let (case, machine) = made(&mut numbers, &primes);
-        let damaged = numbers.below(5) < 2;
-        let file = if damaged {
-            damaged_file(&mut numbers, &case)
-        } else {
-            case.bytes()
-        };
-        let expected = printed(&file);
-        let found = program.run(&file);
-        if found != expected.as_bytes() {
-            let bytes: Vec<u64> = file.iter().map(|&x| x.into()).collect();
-            println!("case {number} of seed {seed} differs: {}", list(&bytes));
-            println!("expected:\n{expected}");
-            println!("printed:\n{}", String::from_utf8_lossy(&found));
-            std::process::exit(1);
-        }
-        let mut count = |name: String| *sorts.entry(name).or_default() += 1;
-        count(format!("sheet: {}", sort(&expected)));
-        match damaged {
-            true if expected.starts_with("REFUSED") => count("file: damaged, refused".to_string()),
-            true => count("file: damaged, still a case".to_string()),
-            false => count("file: sound".to_string()),
-        }
-        if !expected.starts_with("REFUSED") {
-            count(format!("machine: {machine}"));
-            let size = match case.matrix.len() {
-                1..=12 => "1 to 12",
-                13..=30 => "13 to 30",
-                31..=63 => "31 to 63",
-                _ => "64",
-            };
-            count(format!("n: {size}"));
-        }
-    }
-    println!("{cases} cases of seed {seed}, no difference");
-    for (name, count) in sorts {
-        println!("{count:6}  {name}");
     }
 }

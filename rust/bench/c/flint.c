@@ -2,7 +2,7 @@
    Standard input is that of `trial_pace`; the list is not read. The allocator is to keep what it has: else it asks the system for memory and gives it
    back at every call, and FLINT looks three times slower than it is.
 
-       cc -O2 -o flint rust/beside/flint.c -lflint */
+       cc -O2 -o flint rust/bench/c/flint.c -lflint */
 #include <flint/nmod_mat.h>
 #include <flint/nmod_poly.h>
 #include <malloc.h>

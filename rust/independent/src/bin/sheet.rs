@@ -9,5 +9,5 @@ fn main() {
     std::io::stdin()
         .read_to_end(&mut file)
         .expect("the case is read");
-    print!("{}", kinarsop::sheet::printed(&file));
+    print!("{}", independent::sheet::printed(&file));
 }

@@ -1,5 +1,5 @@
 //! Programs timed beside each other: in turns, so that each meets the same load, with the start of the program taken off.
-use crate::program::Program;
+use compare::program::Program;
 
 pub const ROUNDS: usize = 5;
 /// How long a run is to take, in seconds, and at least as long as the program's start, which else hides it.

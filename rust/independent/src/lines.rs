@@ -8,7 +8,7 @@ pub struct Line<'a> {
 }
 
 impl<'a> Line<'a> {
-    fn parse(text: &'a str) -> Self {
+    pub fn parse(text: &'a str) -> Self {
         let (word, rest) = text.split_once(' ').unwrap_or((text, ""));
         let groups = rest.split('|').map(numbers).collect();
         Line { word, groups }
@@ -42,6 +42,30 @@ pub fn list(numbers: &[u64]) -> String {
     words.join(" ")
 }
 
+/// A run of so many equal bytes and more is written as one word.
+const LONG_RUN: usize = 4;
+
+/// The bytes as a group has them.
+pub fn short_list(bytes: &[u8]) -> String {
+    let runs = bytes.chunk_by(|a, b| a == b);
+    let words: Vec<String> = runs.map(short_run).collect();
+    words.join(" ")
+}
+
+/// Equal bytes.
+fn short_run(run: &[u8]) -> String {
+    if LONG_RUN <= run.len() {
+        format!("{}*{}", run.len(), run[0])
+    } else {
+        vec![run[0].to_string(); run.len()].join(" ")
+    }
+}
+
+/// Whether a line of a file says nothing: it is a comment or empty.
+pub fn is_comment(text: &str) -> bool {
+    text.is_empty() || text.starts_with('#')
+}
+
 /// Prints the word and the answer of each line on standard input.
 pub fn answer_all(answer: impl Fn(&Line) -> String) {
     let mut text = String::new();
@@ -49,7 +73,7 @@ pub fn answer_all(answer: impl Fn(&Line) -> String) {
         .read_to_string(&mut text)
         .expect("the lines are text");
     for text in text.lines() {
-        if text.is_empty() || text.starts_with('#') {
+        if is_comment(text) {
             println!("{text}");
             continue;
         }

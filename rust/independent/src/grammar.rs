@@ -137,9 +137,11 @@ pub fn begins(s: &[u64]) -> bool {
     parse(s).1 != Err(Stop::Wrong)
 }
 
-/// The first offset where the bytes up to it and including it begin no well-formed case; the length if all could still be continued.
+/// The first offset where the bytes up to it and including it begin no well-formed case; the length if all could still be continued. What begins
+/// a case does so however much is cut off, so the offset is found by halving.
 pub fn place(s: &[u64]) -> usize {
-    (0..s.len()).find(|&k| !begins(&s[..=k])).unwrap_or(s.len())
+    let lengths: Vec<usize> = (1..=s.len()).collect();
+    lengths.partition_point(|&length| begins(&s[..length]))
 }
 
 /// The records that lie wholly before the place.
@@ -206,6 +208,21 @@ mod tests {
                 values(&s).is_some(),
                 "{s:?}"
             );
+        }
+    }
+
+    /// A front that begins no case has no continuation that does: the place may be found by halving.
+    #[test]
+    fn halving_finds_the_first_place() {
+        let bytes = [0, 1, 3, 65, 67, 69, 82, 255];
+        let mut numbers = Numbers(8);
+        for _ in 0..200 {
+            let mut s = SAMPLE.to_vec();
+            for _ in 0..3 {
+                s[numbers.place(SAMPLE.len())] = numbers.one_of(&bytes);
+            }
+            let first = (0..s.len()).find(|&k| !begins(&s[..=k]));
+            assert_eq!(place(&s), first.unwrap_or(s.len()), "{s:?}");
         }
     }
 

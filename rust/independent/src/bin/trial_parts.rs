@@ -5,8 +5,8 @@
 //!
 //! The modulus follows the word. For each line the word and the answer are printed, or `refused` where the arguments are not what the function
 //! asks for.
-use kinarsop::lines::{self, list, Line};
-use kinarsop::naive::{self, Matrix, Poly};
+use independent::lines::{self, list, Line};
+use independent::naive::{self, Matrix, Poly};
 
 /// The modulus, if it is a byte above 0.
 fn modulus(line: &Line) -> Option<u64> {

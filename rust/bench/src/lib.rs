@@ -1,0 +1,6 @@
+//! How long the calls take, beside other libraries.
+#![forbid(unsafe_code)]
+
+pub mod families;
+pub mod tables;
+pub mod timing;

@@ -1,0 +1,5 @@
+//! The built programs and the built library beside the independent implementation, on inputs that are made.
+#![forbid(unsafe_code)]
+
+pub mod made;
+pub mod program;

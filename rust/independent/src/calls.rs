@@ -1,0 +1,486 @@
+//! The calls with all that is lent to them: what each answers, and every slice as it leaves it. What is refused is worked out here from the refusal
+//! table alone (01, "Refusal numbers"); the results are those of `naive` and `sheet`.
+//!
+//! A call can be written as a line of text, its arguments and what each result buffer holds before it in groups:
+//!
+//! ```text
+//! inverse p | scalar
+//! order   p | n | matrix | row | buffer
+//! image   p | n | matrix | row | polynomial | buffer
+//! stand   p | n | matrix | candidates | allowance | polynomial buffer | witness buffer
+//! chain   p | n | matrix | candidates | product buffer | stage buffer
+//! period  p | n | matrix
+//! sheet   file | buffer
+//! ```
+use crate::case::MOST_CANDIDATES;
+use crate::lines::{short_list, Line};
+use crate::naive::{self, Matrix, Row};
+use crate::sheet;
+use std::ops::Range;
+
+// The numbers of the refusals.
+pub const PRIME: u8 = 1;
+pub const SIZE: u8 = 2;
+pub const MATRIX: u8 = 3;
+pub const ROWS: u8 = 4;
+pub const POLYNOMIAL: u8 = 7;
+pub const ENTRIES: u8 = 5;
+pub const BUFFERS: u8 = 6;
+
+/// The order of the table, in which the tests run.
+pub const TABLE: [u8; 7] = [PRIME, SIZE, MATRIX, ROWS, POLYNOMIAL, ENTRIES, BUFFERS];
+
+pub const WIDEST: u64 = 64;
+pub const MOST_COEFFICIENTS: usize = 65;
+/// What a buffer for a sheet is to have.
+pub const SHEET_ROOM: usize = 2_048;
+
+#[derive(Debug, Clone, Copy, PartialEq, Eq, PartialOrd, Ord)]
+pub enum Name {
+    Inverse,
+    Order,
+    Image,
+    Stand,
+    Chain,
+    Period,
+    Sheet,
+}
+
+/// What a group of a line is: a number of the call, or the next slice.
+enum Part {
+    P,
+    N,
+    K,
+    Slice,
+}
+
+impl Name {
+    pub const ALL: [Name; 7] = [
+        Name::Inverse,
+        Name::Order,
+        Name::Image,
+        Name::Stand,
+        Name::Chain,
+        Name::Period,
+        Name::Sheet,
+    ];
+
+    pub fn word(self) -> &'static str {
+        match self {
+            Name::Inverse => "inverse",
+            Name::Order => "order",
+            Name::Image => "image",
+            Name::Stand => "stand",
+            Name::Chain => "chain",
+            Name::Period => "period",
+            Name::Sheet => "sheet",
+        }
+    }
+
+    fn of_word(word: &str) -> Name {
+        let found = Name::ALL.into_iter().find(|name| name.word() == word);
+        found.unwrap_or_else(|| panic!("{word} is no call"))
+    }
+
+    fn parts(self) -> &'static [Part] {
+        use Part::*;
+        match self {
+            Name::Inverse => &[P, K],
+            Name::Order => &[P, N, Slice, Slice, Slice],
+            Name::Image => &[P, N, Slice, Slice, Slice, Slice],
+            Name::Stand => &[P, N, Slice, Slice, K, Slice, Slice],
+            Name::Chain => &[P, N, Slice, Slice, Slice, Slice],
+            Name::Period => &[P, N, Slice],
+            Name::Sheet => &[Slice, Slice],
+        }
+    }
+
+    /// Which slices are result buffers; those in front of them are read alone.
+    pub fn results(self) -> Range<usize> {
+        match self {
+            Name::Inverse => 0..0,
+            Name::Order => 2..3,
+            Name::Image => 3..4,
+            Name::Stand | Name::Chain => 2..4,
+            Name::Period => 1..1,
+            Name::Sheet => 1..2,
+        }
+    }
+}
+
+/// A call with its numbers and slices, these in the sequence of its parameters. A number that it does not take is 0.
+#[derive(Debug, Clone, PartialEq, Eq)]
+pub struct Call {
+    pub name: Name,
+    pub p: u32,
+    pub n: u64,
+    /// The scalar of an inverse, the allowance of a stand.
+    pub k: u32,
+    pub slices: Vec<Vec<u8>>,
+}
+
+impl Call {
+    pub fn of_line(line: &Line) -> Call {
+        let mut call = Call {
+            name: Name::of_word(line.word),
+            p: 0,
+            n: 0,
+            k: 0,
+            slices: vec![],
+        };
+        for (at, part) in call.name.parts().iter().enumerate() {
+            match part {
+                Part::P => call.p = word(line.number(at)),
+                Part::N => call.n = line.number(at),
+                Part::K => call.k = word(line.number(at)),
+                Part::Slice => call.slices.push(narrow(line.group(at))),
+            }
+        }
+        call
+    }
+
+    pub fn line(&self) -> String {
+        let mut slices = self.slices.iter();
+        let group = |part: &Part| match part {
+            Part::P => self.p.to_string(),
+            Part::N => self.n.to_string(),
+            Part::K => self.k.to_string(),
+            Part::Slice => short_list(slices.next().expect("a call has all its slices")),
+        };
+        let groups: Vec<String> = self.name.parts().iter().map(group).collect();
+        format!("{} {}", self.name.word(), groups.join(" | "))
+    }
+
+    /// A list of bytes as numbers.
+    fn list(&self, k: usize) -> Row {
+        wide(&self.slices[k])
+    }
+}
+
+fn word(x: u64) -> u32 {
+    u32::try_from(x).expect("a modulus, a scalar and an allowance have 32 bits")
+}
+
+fn wide(bytes: &[u8]) -> Row {
+    bytes.iter().map(|&x| x.into()).collect()
+}
+
+fn narrow(list: &[u64]) -> Vec<u8> {
+    let byte = |&x: &u64| u8::try_from(x).expect("a byte is at most 255");
+    list.iter().map(byte).collect()
+}
+
+#[derive(Debug, Clone, PartialEq, Eq)]
+pub enum Answer {
+    Refused(u8),
+    Inverse(u64),
+    Degree(usize),
+    Written,
+    Stood {
+        proved: bool,
+        degree: usize,
+        taken: usize,
+        spent: u64,
+        /// Counted from 1; 0 if proved.
+        witness: usize,
+    },
+    Stages(usize),
+    Period(Option<u64>),
+    Length(usize),
+}
+
+/// The answer, and every slice as the call leaves it.
+#[derive(Debug, Clone, PartialEq, Eq)]
+pub struct Outcome {
+    pub answer: Answer,
+    pub slices: Vec<Vec<u8>>,
+}
+
+/// A refused call writes nothing.
+pub fn outcome(call: &Call) -> Outcome {
+    let mut slices = call.slices.clone();
+    let answer = match given(call) {
+        Ok(given) => {
+            write(&mut slices[call.name.results()], &given.written);
+            given.answer
+        }
+        Err(number) => Answer::Refused(number),
+    };
+    Outcome { answer, slices }
+}
+
+/// The written bytes go to the front of each buffer.
+fn write(buffers: &mut [Vec<u8>], written: &[Vec<u8>]) {
+    for (buffer, front) in buffers.iter_mut().zip(written) {
+        buffer[..front.len()].copy_from_slice(front);
+    }
+}
+
+/// A call that is not refused: its answer, and what is written to the front of each of its buffers.
+struct Given {
+    answer: Answer,
+    written: Vec<Vec<u8>>,
+}
+
+impl Given {
+    fn new(answer: Answer, written: &[Row]) -> Result<Given, u8> {
+        Ok(Given {
+            answer,
+            written: written.iter().map(|list| narrow(list)).collect(),
+        })
+    }
+}
+
+/// What a call gives, or the number of its refusal.
+fn given(call: &Call) -> Result<Given, u8> {
+    match call.name {
+        Name::Inverse => inverse(call),
+        Name::Order => order(call),
+        Name::Image => image(call),
+        Name::Stand => stand(call),
+        Name::Chain => chain(call),
+        Name::Period => period(call),
+        Name::Sheet => sheet(call),
+    }
+}
+
+/// A test of the refusal table.
+fn test(number: u8, applies: bool) -> Result<(), u8> {
+    if applies {
+        Err(number)
+    } else {
+        Ok(())
+    }
+}
+
+/// The arguments that every call on a matrix has.
+struct Machine {
+    p: u64,
+    n: u64,
+    entries: Row,
+}
+
+impl Machine {
+    fn of(call: &Call) -> Self {
+        Machine {
+            p: call.p.into(),
+            n: call.n,
+            entries: call.list(0),
+        }
+    }
+
+    /// Tests 1, 2 and 3.
+    fn shape(&self) -> Result<(), u8> {
+        test(PRIME, !naive::is_prime(self.p))?;
+        test(SIZE, self.n < 1 || WIDEST < self.n)?;
+        test(MATRIX, self.entries.len() as u64 != self.n * self.n)
+    }
+
+    /// Test 5 of the matrix and of other lists.
+    fn range(&self, lists: &[&Row]) -> Result<(), u8> {
+        let bad = |list: &Row| naive::first_bad(self.p, list).is_some();
+        test(
+            ENTRIES,
+            bad(&self.entries) || lists.iter().any(|list| bad(list)),
+        )
+    }
+
+    fn size(&self) -> usize {
+        self.n as usize
+    }
+
+    /// The rows of a list that is a whole number of them.
+    fn rows(&self, list: &[u64]) -> Vec<Row> {
+        list.chunks(self.size()).map(<[u64]>::to_vec).collect()
+    }
+
+    fn matrix(&self) -> Matrix {
+        self.rows(&self.entries)
+    }
+}
+
+/// Test 4 of one row.
+fn row_length(n: u64, v: &[u64]) -> Result<(), u8> {
+    test(ROWS, v.len() as u64 != n)
+}
+
+/// Test 4 of a list of candidates.
+fn candidate_rows(n: u64, candidates: &[u64]) -> Result<(), u8> {
+    let length = candidates.len() as u64;
+    let most = MOST_CANDIDATES as u64;
+    test(ROWS, !length.is_multiple_of(n) || most < length / n)
+}
+
+/// Test 6: each result buffer with the bytes that it is to hold.
+fn room(call: &Call, asked: &[usize]) -> Result<(), u8> {
+    let mut buffers = call.slices[call.name.results()].iter().zip(asked);
+    test(
+        BUFFERS,
+        buffers.any(|(buffer, &least)| buffer.len() < least),
+    )
+}
+
+/// The list with zeros after it.
+fn padded(mut list: Row, length: usize) -> Row {
+    assert!(list.len() <= length, "a result fits its place");
+    list.resize(length, 0);
+    list
+}
+
+fn inverse(call: &Call) -> Result<Given, u8> {
+    let (p, a) = (call.p.into(), call.k.into());
+    test(PRIME, !naive::is_prime(p))?;
+    test(ENTRIES, p <= a)?;
+    Given::new(Answer::Inverse(naive::inverse(p, a)), &[])
+}
+
+fn order(call: &Call) -> Result<Given, u8> {
+    let machine = Machine::of(call);
+    let v = call.list(1);
+    machine.shape()?;
+    row_length(machine.n, &v)?;
+    machine.range(&[&v])?;
+    let length = machine.size() + 1;
+    room(call, &[length])?;
+    let f = naive::order(machine.p, &machine.matrix(), &v);
+    Given::new(Answer::Degree(f.len() - 1), &[padded(f, length)])
+}
+
+fn image(call: &Call) -> Result<Given, u8> {
+    let machine = Machine::of(call);
+    let (v, f) = (call.list(1), call.list(2));
+    machine.shape()?;
+    row_length(machine.n, &v)?;
+    test(POLYNOMIAL, f.is_empty() || MOST_COEFFICIENTS < f.len())?;
+    machine.range(&[&v, &f])?;
+    room(call, &[machine.size()])?;
+    let image = naive::image(machine.p, &v, &f, &machine.matrix());
+    Given::new(Answer::Written, &[image])
+}
+
+fn stand(call: &Call) -> Result<Given, u8> {
+    let machine = Machine::of(call);
+    let candidates = call.list(1);
+    machine.shape()?;
+    candidate_rows(machine.n, &candidates)?;
+    machine.range(&[&candidates])?;
+    let length = machine.size() + 1;
+    room(call, &[length, machine.size()])?;
+    let rows = machine.rows(&candidates);
+    let found = naive::stand(machine.p, &machine.matrix(), &rows, call.k.into());
+    let answer = Answer::Stood {
+        proved: found.proved,
+        degree: found.polynomial.len() - 1,
+        taken: found.taken,
+        spent: found.spent,
+        witness: found.witness,
+    };
+    Given::new(answer, &[padded(found.polynomial, length), found.image])
+}
+
+fn chain(call: &Call) -> Result<Given, u8> {
+    let machine = Machine::of(call);
+    let candidates = call.list(1);
+    machine.shape()?;
+    candidate_rows(machine.n, &candidates)?;
+    machine.range(&[&candidates])?;
+    let (length, record) = (machine.size() + 1, 2 * machine.size());
+    room(call, &[length, record])?;
+    let rows = machine.rows(&candidates);
+    let found = naive::chain(machine.p, &machine.matrix(), &rows);
+    let mut stages = vec![];
+    for stage in &found.stages {
+        let degree = stage.len() - 1;
+        stages.push(degree as u64);
+        stages.extend(&stage[..degree]);
+    }
+    Given::new(
+        Answer::Stages(found.stages.len()),
+        &[padded(found.product, length), padded(stages, record)],
+    )
+}
+
+fn period(call: &Call) -> Result<Given, u8> {
+    let machine = Machine::of(call);
+    machine.shape()?;
+    machine.range(&[])?;
+    let found = naive::period(machine.p, &machine.matrix());
+    Given::new(Answer::Period(found), &[])
+}
+
+fn sheet(call: &Call) -> Result<Given, u8> {
+    room(call, &[SHEET_ROOM])?;
+    let text = sheet::printed_by_grammar(&call.slices[0]).into_bytes();
+    Given::new(Answer::Length(text.len()), &[wide(&text)])
+}
+
+#[cfg(test)]
+mod tests {
+    use super::*;
+
+    fn read(text: &str) -> Call {
+        Call::of_line(&Line::parse(text))
+    }
+
+    fn refusal(text: &str) -> Answer {
+        outcome(&read(text)).answer
+    }
+
+    #[test]
+    fn a_call_is_the_same_when_it_was_a_line() {
+        let lines = [
+            "inverse 4294967295 | 4294967295",
+            "order 3 | 2 | 0 1 2 0 | 1 0 | 7 7 7 7",
+            "image 3 | 18446744073709551615 |  |  |  | ",
+            "stand 3 | 2 | 0 1 2 0 | 1 0 | 8192 | 5*9 | 9 8 7",
+            "chain 3 | 2 | 0 1 2 0 |  | 5*9 | 4*0 1 2 3 3 3 3*4",
+            "period 2 | 64 | 4096*1",
+            "sheet 255 70 3 | 2048*77 1",
+        ];
+        for (text, name) in lines.into_iter().zip(Name::ALL) {
+            let call = read(text);
+            assert_eq!(call.name, name);
+            assert_eq!(read(&call.line()), call, "{text}");
+        }
+    }
+
+    #[test]
+    fn the_18_bytes_as_calls() {
+        let stood = outcome(&read("stand 3 | 2 | 0 1 2 0 | 1 0 | 2 | 5*9 | 9 9"));
+        let answer = Answer::Stood {
+            proved: true,
+            degree: 2,
+            taken: 1,
+            spent: 2,
+            witness: 0,
+        };
+        assert_eq!(stood.answer, answer);
+        assert_eq!(stood.slices[2..], [vec![1, 0, 1, 9, 9], vec![0, 0]]);
+        assert_eq!(refusal("period 3 | 2 | 0 1 2 0"), Answer::Period(Some(4)));
+    }
+
+    #[test]
+    fn a_refused_call_writes_nothing() {
+        let call = read("order 3 | 2 | 0 1 2 0 | 1 3 | 9 9 9");
+        let expected = Outcome {
+            answer: Answer::Refused(ENTRIES),
+            slices: call.slices.clone(),
+        };
+        assert_eq!(outcome(&call), expected);
+    }
+
+    /// n·n is not formed where n is no size.
+    #[test]
+    fn sizes_without_bound() {
+        for n in [0, 65, 1 << 32, (1 << 32) + 2, u64::MAX] {
+            let text = format!("period 3 | {n} | 0 1 2 0");
+            assert_eq!(refusal(&text), Answer::Refused(SIZE));
+        }
+    }
+
+    #[test]
+    fn a_sheet_is_refused_for_its_buffer_alone() {
+        assert_eq!(refusal("sheet  | 2047*0"), Answer::Refused(BUFFERS));
+        assert_eq!(refusal("sheet  | 2048*0"), Answer::Length(10));
+    }
+}
