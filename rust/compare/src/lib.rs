@@ -1,5 +1,7 @@
 //! The built programs and the built library beside the independent implementation, on inputs that are made.
 #![forbid(unsafe_code)]
 
+pub mod lend;
 pub mod made;
 pub mod program;
+pub mod tally;

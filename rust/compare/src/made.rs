@@ -230,6 +230,9 @@ pub fn case_of(numbers: &mut Numbers, p: u64, n: usize) -> (Case, &'static str) 
     (case, name)
 }
 
+/// The first byte of every record.
+pub const MARK: u8 = 255;
+
 /// Bytes that mean something somewhere in a case.
 const TELLING: [u8; 12] = [0, 1, 2, 4, 65, 67, 69, 70, 82, 127, 128, 255];
 
@@ -243,14 +246,13 @@ fn among(numbers: &mut Numbers, length: usize, few: usize) -> usize {
 }
 
 /// A fault in the sequence of records: one written twice, left out or swapped with another, or one put in: an allowance, a row or a candidate of
-/// zeros, an end; or so many candidates that there are 128, 129 or 130; or a number at the end of its range or just behind it.
-fn shuffle(numbers: &mut Numbers, case: &Case) -> Vec<u8> {
-    let mut records = case.records();
+/// zeros, an end; or so many candidates that there are 128, 129 or 130; or a number at the end of its range or just behind it. There is a record.
+pub fn shuffle(numbers: &mut Numbers, mut records: Vec<Vec<u8>>, p: u8, n: usize) -> Vec<u8> {
     let at = among(numbers, records.len(), 3);
-    let zeros = vec![0; case.matrix.len()];
+    let zeros = vec![0; n];
     let (row, candidate) = (
-        [&[255, b'R'], &zeros[..]].concat(),
-        [&[255, b'C'], &zeros[..]].concat(),
+        [&[MARK, b'R'], &zeros[..]].concat(),
+        [&[MARK, b'C'], &zeros[..]].concat(),
     );
     match numbers.below(12) {
         0 => records.insert(at, records[at].clone()),
@@ -261,23 +263,24 @@ fn shuffle(numbers: &mut Numbers, case: &Case) -> Vec<u8> {
             let other = numbers.place(records.len());
             records.swap(at, other);
         }
-        3 => records.insert(at, vec![255, b'A', 0, 9]),
+        3 => records.insert(at, vec![MARK, b'A', 0, 9]),
         4 => records.insert(at, row),
         5 => records.insert(at, candidate),
-        6 => records.insert(at, vec![255, b'E']),
+        6 => records.insert(at, vec![MARK, b'E']),
         7 => {
             let end = records.len() - 1;
-            let count = MOST_CANDIDATES - case.candidates.len() + numbers.place(3);
+            let there = records.iter().filter(|r| r.get(1) == Some(&b'C')).count();
+            let count = MOST_CANDIDATES.saturating_sub(there) + numbers.place(3);
             records.splice(end..end, vec![candidate; count]);
         }
-        _ if records[at].len() == 2 => {}
+        _ if records[at].len() <= 2 => {}
         _ => {
             let place = 2 + numbers.place(records[at].len() - 2);
             records[at][place] = match (records[at][1], place) {
                 (b'F', 2) => numbers.one_of(&[0, 1, 4, 251, 253, 255]),
                 (b'F', _) => numbers.one_of(&[0, 65]),
                 (b'A', _) => numbers.one_of(&[127, 128]),
-                _ => case.p as u8 - 1 + numbers.place(2) as u8,
+                _ => p.wrapping_sub(1).wrapping_add(numbers.place(2) as u8),
             };
         }
     }
@@ -285,7 +288,7 @@ fn shuffle(numbers: &mut Numbers, case: &Case) -> Vec<u8> {
 }
 
 /// A fault in the bytes: some cut off, changed, appended, put in, taken out or written twice.
-fn smudge(numbers: &mut Numbers, file: &mut Vec<u8>) {
+pub fn smudge(numbers: &mut Numbers, file: &mut Vec<u8>) {
     let byte = match numbers.below(2) {
         0 => numbers.one_of(&TELLING),
         _ => numbers.below(256) as u8,
@@ -323,7 +326,7 @@ pub fn damaged(numbers: &mut Numbers, case: &Case) -> Vec<u8> {
         (false, 2),
     ]);
     let mut file = if faults.0 {
-        shuffle(numbers, case)
+        shuffle(numbers, case.records(), case.p as u8, case.matrix.len())
     } else {
         case.bytes()
     };

@@ -34,13 +34,18 @@ impl Program {
         nanoseconds.expect("the time is a number") / 1e9
     }
 
-    fn start(&self, input: &[u8], output: Stdio) -> Child {
-        let mut child = Command::new(&self.0[0])
+    /// A run whose input is a pipe that is still open, or why there is none.
+    pub fn spawn(&self, output: Stdio) -> Result<Child, String> {
+        Command::new(&self.0[0])
             .args(&self.0[1..])
             .stdin(Stdio::piped())
             .stdout(output)
             .spawn()
-            .unwrap_or_else(|e| panic!("{} does not start: {e}", self.0[0]));
+            .map_err(|e| format!("{} does not start: {e}", self.0[0]))
+    }
+
+    fn start(&self, input: &[u8], output: Stdio) -> Child {
+        let mut child = self.spawn(output).unwrap_or_else(|e| panic!("{e}"));
         let mut pipe = child.stdin.take().expect("the input is a pipe");
         let _ = pipe.write_all(input);
         drop(pipe);

@@ -95,6 +95,11 @@ impl Name {
         }
     }
 
+    /// How many slices are lent.
+    pub fn slices(self) -> usize {
+        self.results().end
+    }
+
     /// Which slices are result buffers; those in front of them are read alone.
     pub fn results(self) -> Range<usize> {
         match self {
@@ -104,6 +109,18 @@ impl Name {
             Name::Stand | Name::Chain => 2..4,
             Name::Period => 1..1,
             Name::Sheet => 1..2,
+        }
+    }
+
+    /// The bytes that each result buffer is to have at least.
+    pub fn rooms(self, n: usize) -> Vec<usize> {
+        match self {
+            Name::Inverse | Name::Period => vec![],
+            Name::Order => vec![n + 1],
+            Name::Image => vec![n],
+            Name::Stand => vec![n + 1, n],
+            Name::Chain => vec![n + 1, 2 * n],
+            Name::Sheet => vec![SHEET_ROOM],
         }
     }
 }
@@ -151,9 +168,21 @@ impl Call {
         format!("{} {}", self.name.word(), groups.join(" | "))
     }
 
-    /// A list of bytes as numbers.
+    fn size(&self) -> usize {
+        self.n as usize
+    }
+
     fn list(&self, k: usize) -> Row {
         wide(&self.slices[k])
+    }
+
+    /// The rows of a list that is a whole number of them.
+    fn rows(&self, k: usize) -> Vec<Row> {
+        self.slices[k].chunks(self.size()).map(wide).collect()
+    }
+
+    fn matrix(&self) -> Matrix {
+        self.rows(0)
     }
 }
 
@@ -199,49 +228,34 @@ pub struct Outcome {
 /// A refused call writes nothing.
 pub fn outcome(call: &Call) -> Outcome {
     let mut slices = call.slices.clone();
-    let answer = match given(call) {
-        Ok(given) => {
-            write(&mut slices[call.name.results()], &given.written);
-            given.answer
+    let answer = match refusal(call) {
+        Some(number) => Answer::Refused(number),
+        None => {
+            let (answer, written) = given(call);
+            write(&mut slices[call.name.results()], &written);
+            answer
         }
-        Err(number) => Answer::Refused(number),
     };
     Outcome { answer, slices }
 }
 
 /// The written bytes go to the front of each buffer.
-fn write(buffers: &mut [Vec<u8>], written: &[Vec<u8>]) {
+fn write(buffers: &mut [Vec<u8>], written: &[Row]) {
     for (buffer, front) in buffers.iter_mut().zip(written) {
-        buffer[..front.len()].copy_from_slice(front);
+        buffer[..front.len()].copy_from_slice(&narrow(front));
     }
 }
 
-/// A call that is not refused: its answer, and what is written to the front of each of its buffers.
-struct Given {
-    answer: Answer,
-    written: Vec<Vec<u8>>,
-}
+// What is refused.
 
-impl Given {
-    fn new(answer: Answer, written: &[Row]) -> Result<Given, u8> {
-        Ok(Given {
-            answer,
-            written: written.iter().map(|list| narrow(list)).collect(),
-        })
-    }
-}
-
-/// What a call gives, or the number of its refusal.
-fn given(call: &Call) -> Result<Given, u8> {
-    match call.name {
-        Name::Inverse => inverse(call),
-        Name::Order => order(call),
-        Name::Image => image(call),
-        Name::Stand => stand(call),
-        Name::Chain => chain(call),
-        Name::Period => period(call),
-        Name::Sheet => sheet(call),
-    }
+/// The number of the first test that applies.
+pub fn refusal(call: &Call) -> Option<u8> {
+    let tests = match call.name {
+        Name::Inverse => of_scalar(call),
+        Name::Sheet => room(call),
+        _ => of_machine(call),
+    };
+    tests.err()
 }
 
 /// A test of the refusal table.
@@ -253,71 +267,63 @@ fn test(number: u8, applies: bool) -> Result<(), u8> {
     }
 }
 
-/// The arguments that every call on a matrix has.
-struct Machine {
-    p: u64,
-    n: u64,
-    entries: Row,
+fn of_scalar(call: &Call) -> Result<(), u8> {
+    test(PRIME, !naive::is_prime(call.p.into()))?;
+    test(ENTRIES, call.p <= call.k)
 }
 
-impl Machine {
-    fn of(call: &Call) -> Self {
-        Machine {
-            p: call.p.into(),
-            n: call.n,
-            entries: call.list(0),
-        }
-    }
-
-    /// Tests 1, 2 and 3.
-    fn shape(&self) -> Result<(), u8> {
-        test(PRIME, !naive::is_prime(self.p))?;
-        test(SIZE, self.n < 1 || WIDEST < self.n)?;
-        test(MATRIX, self.entries.len() as u64 != self.n * self.n)
-    }
-
-    /// Test 5 of the matrix and of other lists.
-    fn range(&self, lists: &[&Row]) -> Result<(), u8> {
-        let bad = |list: &Row| naive::first_bad(self.p, list).is_some();
-        test(
-            ENTRIES,
-            bad(&self.entries) || lists.iter().any(|list| bad(list)),
-        )
-    }
-
-    fn size(&self) -> usize {
-        self.n as usize
-    }
-
-    /// The rows of a list that is a whole number of them.
-    fn rows(&self, list: &[u64]) -> Vec<Row> {
-        list.chunks(self.size()).map(<[u64]>::to_vec).collect()
-    }
-
-    fn matrix(&self) -> Matrix {
-        self.rows(&self.entries)
-    }
-}
-
-/// Test 4 of one row.
-fn row_length(n: u64, v: &[u64]) -> Result<(), u8> {
-    test(ROWS, v.len() as u64 != n)
-}
-
-/// Test 4 of a list of candidates.
-fn candidate_rows(n: u64, candidates: &[u64]) -> Result<(), u8> {
-    let length = candidates.len() as u64;
-    let most = MOST_CANDIDATES as u64;
-    test(ROWS, !length.is_multiple_of(n) || most < length / n)
-}
-
-/// Test 6: each result buffer with the bytes that it is to hold.
-fn room(call: &Call, asked: &[usize]) -> Result<(), u8> {
-    let mut buffers = call.slices[call.name.results()].iter().zip(asked);
+/// The tests of a call that takes a matrix. n·n is formed where n is a size alone.
+fn of_machine(call: &Call) -> Result<(), u8> {
+    test(PRIME, !naive::is_prime(call.p.into()))?;
+    test(SIZE, call.n < 1 || WIDEST < call.n)?;
+    let n = call.size();
+    test(MATRIX, call.slices[0].len() != n * n)?;
+    test(ROWS, ragged(call))?;
     test(
-        BUFFERS,
-        buffers.any(|(buffer, &least)| buffer.len() < least),
-    )
+        POLYNOMIAL,
+        call.name == Name::Image && unfit(&call.slices[2]),
+    )?;
+    let mut read = call.slices[..call.name.results().start].iter().flatten();
+    test(ENTRIES, read.any(|&x| call.p <= x.into()))?;
+    room(call)
+}
+
+/// Whether the row, or the list of candidates, has not the length that it is to have.
+fn ragged(call: &Call) -> bool {
+    let n = call.size();
+    let length = || call.slices[1].len();
+    match call.name {
+        Name::Order | Name::Image => length() != n,
+        Name::Stand | Name::Chain => !length().is_multiple_of(n) || MOST_CANDIDATES < length() / n,
+        _ => false,
+    }
+}
+
+/// Whether a list has no coefficient or too many.
+fn unfit(polynomial: &[u8]) -> bool {
+    polynomial.is_empty() || MOST_COEFFICIENTS < polynomial.len()
+}
+
+fn room(call: &Call) -> Result<(), u8> {
+    let buffers = &call.slices[call.name.results()];
+    let rooms = call.name.rooms(call.size());
+    let short = buffers.iter().zip(rooms).any(|(b, room)| b.len() < room);
+    test(BUFFERS, short)
+}
+
+// What is answered.
+
+/// The answer of a call that is not refused, and what is written to the front of each of its result buffers.
+fn given(call: &Call) -> (Answer, Vec<Row>) {
+    match call.name {
+        Name::Inverse => inverse(call),
+        Name::Order => order(call),
+        Name::Image => image(call),
+        Name::Stand => stand(call),
+        Name::Chain => chain(call),
+        Name::Period => period(call),
+        Name::Sheet => sheet(call),
+    }
 }
 
 /// The list with zeros after it.
@@ -327,47 +333,25 @@ fn padded(mut list: Row, length: usize) -> Row {
     list
 }
 
-fn inverse(call: &Call) -> Result<Given, u8> {
-    let (p, a) = (call.p.into(), call.k.into());
-    test(PRIME, !naive::is_prime(p))?;
-    test(ENTRIES, p <= a)?;
-    Given::new(Answer::Inverse(naive::inverse(p, a)), &[])
+fn inverse(call: &Call) -> (Answer, Vec<Row>) {
+    let inverse = naive::inverse(call.p.into(), call.k.into());
+    (Answer::Inverse(inverse), vec![])
 }
 
-fn order(call: &Call) -> Result<Given, u8> {
-    let machine = Machine::of(call);
-    let v = call.list(1);
-    machine.shape()?;
-    row_length(machine.n, &v)?;
-    machine.range(&[&v])?;
-    let length = machine.size() + 1;
-    room(call, &[length])?;
-    let f = naive::order(machine.p, &machine.matrix(), &v);
-    Given::new(Answer::Degree(f.len() - 1), &[padded(f, length)])
+fn order(call: &Call) -> (Answer, Vec<Row>) {
+    let f = naive::order(call.p.into(), &call.matrix(), &call.list(1));
+    let degree = f.len() - 1;
+    (Answer::Degree(degree), vec![padded(f, call.size() + 1)])
 }
 
-fn image(call: &Call) -> Result<Given, u8> {
-    let machine = Machine::of(call);
+fn image(call: &Call) -> (Answer, Vec<Row>) {
     let (v, f) = (call.list(1), call.list(2));
-    machine.shape()?;
-    row_length(machine.n, &v)?;
-    test(POLYNOMIAL, f.is_empty() || MOST_COEFFICIENTS < f.len())?;
-    machine.range(&[&v, &f])?;
-    room(call, &[machine.size()])?;
-    let image = naive::image(machine.p, &v, &f, &machine.matrix());
-    Given::new(Answer::Written, &[image])
+    let image = naive::image(call.p.into(), &v, &f, &call.matrix());
+    (Answer::Written, vec![image])
 }
 
-fn stand(call: &Call) -> Result<Given, u8> {
-    let machine = Machine::of(call);
-    let candidates = call.list(1);
-    machine.shape()?;
-    candidate_rows(machine.n, &candidates)?;
-    machine.range(&[&candidates])?;
-    let length = machine.size() + 1;
-    room(call, &[length, machine.size()])?;
-    let rows = machine.rows(&candidates);
-    let found = naive::stand(machine.p, &machine.matrix(), &rows, call.k.into());
+fn stand(call: &Call) -> (Answer, Vec<Row>) {
+    let found = naive::stand(call.p.into(), &call.matrix(), &call.rows(1), call.k.into());
     let answer = Answer::Stood {
         proved: found.proved,
         degree: found.polynomial.len() - 1,
@@ -375,43 +359,31 @@ fn stand(call: &Call) -> Result<Given, u8> {
         spent: found.spent,
         witness: found.witness,
     };
-    Given::new(answer, &[padded(found.polynomial, length), found.image])
+    let polynomial = padded(found.polynomial, call.size() + 1);
+    (answer, vec![polynomial, found.image])
 }
 
-fn chain(call: &Call) -> Result<Given, u8> {
-    let machine = Machine::of(call);
-    let candidates = call.list(1);
-    machine.shape()?;
-    candidate_rows(machine.n, &candidates)?;
-    machine.range(&[&candidates])?;
-    let (length, record) = (machine.size() + 1, 2 * machine.size());
-    room(call, &[length, record])?;
-    let rows = machine.rows(&candidates);
-    let found = naive::chain(machine.p, &machine.matrix(), &rows);
+fn chain(call: &Call) -> (Answer, Vec<Row>) {
+    let found = naive::chain(call.p.into(), &call.matrix(), &call.rows(1));
     let mut stages = vec![];
     for stage in &found.stages {
         let degree = stage.len() - 1;
         stages.push(degree as u64);
         stages.extend(&stage[..degree]);
     }
-    Given::new(
-        Answer::Stages(found.stages.len()),
-        &[padded(found.product, length), padded(stages, record)],
-    )
+    let product = padded(found.product, call.size() + 1);
+    let stages = padded(stages, 2 * call.size());
+    (Answer::Stages(found.stages.len()), vec![product, stages])
 }
 
-fn period(call: &Call) -> Result<Given, u8> {
-    let machine = Machine::of(call);
-    machine.shape()?;
-    machine.range(&[])?;
-    let found = naive::period(machine.p, &machine.matrix());
-    Given::new(Answer::Period(found), &[])
+fn period(call: &Call) -> (Answer, Vec<Row>) {
+    let found = naive::period(call.p.into(), &call.matrix());
+    (Answer::Period(found), vec![])
 }
 
-fn sheet(call: &Call) -> Result<Given, u8> {
-    room(call, &[SHEET_ROOM])?;
-    let text = sheet::printed_by_grammar(&call.slices[0]).into_bytes();
-    Given::new(Answer::Length(text.len()), &[wide(&text)])
+fn sheet(call: &Call) -> (Answer, Vec<Row>) {
+    let text = sheet::printed_by_grammar(&call.slices[0]);
+    (Answer::Length(text.len()), vec![wide(text.as_bytes())])
 }
 
 #[cfg(test)]

@@ -1,0 +1,316 @@
+//! The built library, asked through the program `lend` (`c/lend.c`), which makes the calls that it reads, with every lent slice against a page that
+//! may not be touched. All numbers are little-endian. A batch is a count of four bytes and so many requests; a request is
+//!
+//! ```text
+//! call, sides            a byte each; bit k of the sides: slice k ends at the page behind it, else it begins at the page in front
+//! p, n, k                4, 8 and 4 bytes
+//! length, bytes          of each slice, the length in 4 bytes
+//! ```
+//!
+//! and the response to it six numbers of 8 bytes, the refusal and the fields of the answer, and every slice as it is after the call.
+use crate::program::Program;
+use independent::calls::{outcome, Answer, Call};
+use independent::lines::{list, short_list};
+use std::fmt;
+use std::io::{BufReader, Read, Write};
+use std::process::{Child, ChildStdin, ChildStdout, Stdio};
+
+/// The longest slice that can be lent.
+pub const LONGEST: usize = 1 << 16;
+
+/// Every slice against the page in front of it, and every slice against the page behind it.
+pub const IN_FRONT: u8 = 0;
+pub const BEHIND: u8 = u8::MAX;
+
+/// A call and the sides on which its slices lie.
+#[derive(Debug, Clone, PartialEq, Eq)]
+pub struct Input {
+    pub call: Call,
+    pub sides: u8,
+}
+
+impl Input {
+    /// The call with its slices on every choice of sides.
+    pub fn on_all_sides(call: &Call) -> Vec<Input> {
+        let choices = 0..1 << call.name.slices();
+        choices.map(|sides| Input::new(call, sides)).collect()
+    }
+
+    /// The call with all slices in front, and with all behind.
+    pub fn on_both_sides(call: &Call) -> [Input; 2] {
+        [IN_FRONT, BEHIND].map(|sides| Input::new(call, sides))
+    }
+
+    fn new(call: &Call, sides: u8) -> Input {
+        Input {
+            call: call.clone(),
+            sides,
+        }
+    }
+
+    fn request(&self) -> Vec<u8> {
+        let call = &self.call;
+        let mut bytes = vec![call.name as u8, self.sides];
+        bytes.extend(call.p.to_le_bytes());
+        bytes.extend(call.n.to_le_bytes());
+        bytes.extend(call.k.to_le_bytes());
+        for slice in &call.slices {
+            assert!(slice.len() <= LONGEST, "a slice is too long to be lent");
+            bytes.extend((slice.len() as u32).to_le_bytes());
+            bytes.extend(slice);
+        }
+        bytes
+    }
+}
+
+fn batch(inputs: &[Input]) -> Vec<u8> {
+    let mut bytes = (inputs.len() as u32).to_le_bytes().to_vec();
+    for input in inputs {
+        bytes.extend(input.request());
+    }
+    bytes
+}
+
+/// The refusal and the fields of an answer, with zeros behind them.
+const NUMBERS: usize = 6;
+
+/// What is seen of a call from outside.
+#[derive(Debug, Clone, PartialEq, Eq)]
+pub struct Seen {
+    pub numbers: [u64; NUMBERS],
+    pub slices: Vec<Vec<u8>>,
+}
+
+impl Seen {
+    /// What is to be seen, by the independent implementation.
+    pub fn expected(call: &Call) -> Seen {
+        let outcome = outcome(call);
+        Seen {
+            numbers: numbers(&outcome.answer),
+            slices: outcome.slices,
+        }
+    }
+
+    fn read(from: &mut impl Read, call: &Call) -> std::io::Result<Seen> {
+        let mut numbers = [0; NUMBERS];
+        for x in &mut numbers {
+            let mut bytes = [0; 8];
+            from.read_exact(&mut bytes)?;
+            *x = u64::from_le_bytes(bytes);
+        }
+        let mut slices = call.slices.clone();
+        for slice in &mut slices {
+            from.read_exact(slice)?;
+        }
+        Ok(Seen { numbers, slices })
+    }
+}
+
+impl fmt::Display for Seen {
+    fn fmt(&self, f: &mut fmt::Formatter) -> fmt::Result {
+        f.write_str(&list(&self.numbers))?;
+        for slice in &self.slices {
+            write!(f, " | {}", short_list(slice))?;
+        }
+        Ok(())
+    }
+}
+
+/// An answer in the sequence of the C struct's fields.
+fn numbers(answer: &Answer) -> [u64; NUMBERS] {
+    let only = |x: u64| [0, x, 0, 0, 0, 0];
+    match *answer {
+        Answer::Refused(number) => [number.into(), 0, 0, 0, 0, 0],
+        Answer::Inverse(inverse) => only(inverse),
+        Answer::Degree(degree) => only(degree as u64),
+        Answer::Written => only(0),
+        Answer::Stood {
+            proved,
+            degree,
+            taken,
+            spent,
+            witness,
+        } => [
+            0,
+            proved.into(),
+            degree as u64,
+            taken as u64,
+            spent,
+            witness as u64,
+        ],
+        Answer::Stages(count) => only(count as u64),
+        Answer::Period(found) => only(found.unwrap_or(0)),
+        Answer::Length(length) => only(length as u64),
+    }
+}
+
+/// The running program.
+pub struct Lender<'a> {
+    program: &'a Program,
+    child: Child,
+    requests: Option<ChildStdin>,
+    responses: BufReader<ChildStdout>,
+}
+
+/// The first input of a batch at which the library does not what it is to do.
+#[derive(Debug)]
+pub struct Difference {
+    pub place: usize,
+    /// What was seen, or how the program ended.
+    pub found: Result<Seen, String>,
+}
+
+impl<'a> Lender<'a> {
+    pub fn start(program: &'a Program) -> Result<Self, String> {
+        let mut child = program.spawn(Stdio::piped())?;
+        let responses = child.stdout.take().expect("the output is a pipe");
+        Ok(Lender {
+            program,
+            requests: child.stdin.take(),
+            responses: BufReader::new(responses),
+            child,
+        })
+    }
+
+    /// What the program answers to a batch; where it ends before, what it answered until then. The requests are written by a thread of their own,
+    /// so that a full pipe of responses does not keep the program from reading.
+    fn ask(&mut self, inputs: &[Input]) -> Vec<Seen> {
+        let bytes = batch(inputs);
+        let requests = self.requests.as_mut().expect("the input is open");
+        let responses = &mut self.responses;
+        std::thread::scope(|scope| {
+            scope.spawn(move || requests.write_all(&bytes).and_then(|()| requests.flush()));
+            let seen = inputs.iter().map(|x| Seen::read(responses, &x.call));
+            seen.map_while(Result::ok).collect()
+        })
+    }
+
+    /// The first difference of a batch from what is expected of it.
+    pub fn difference(&mut self, inputs: &[Input], expected: &[Seen]) -> Option<Difference> {
+        let mut seen = self.ask(inputs);
+        let place = (0..seen.len()).find(|&k| seen[k] != expected[k]);
+        if let Some(place) = place {
+            let found = Ok(seen.swap_remove(place));
+            return Some(Difference { place, found });
+        }
+        if seen.len() == inputs.len() {
+            return None;
+        }
+        let ended = self.end();
+        let alone = self.one_by_one(inputs, expected);
+        Some(alone.unwrap_or(Difference {
+            place: seen.len(),
+            found: Err(ended),
+        }))
+    }
+
+    /// The same where a batch was not answered to its end: each input is a batch of its own, of a new program.
+    fn one_by_one(&self, inputs: &[Input], expected: &[Seen]) -> Option<Difference> {
+        let mut lender = match Lender::start(self.program) {
+            Ok(lender) => lender,
+            Err(found) => {
+                return Some(Difference {
+                    place: 0,
+                    found: Err(found),
+                })
+            }
+        };
+        (0..inputs.len()).find_map(|place| {
+            let found = match lender.ask(&inputs[place..=place]).pop() {
+                Some(seen) if seen == expected[place] => return None,
+                Some(seen) => Ok(seen),
+                None => Err(lender.end()),
+            };
+            Some(Difference { place, found })
+        })
+    }
+
+    /// Closes the input and says how the program ended.
+    fn end(&mut self) -> String {
+        drop(self.requests.take());
+        match self.child.wait() {
+            Ok(status) => format!("the program ended, {status}"),
+            Err(e) => format!("the program cannot be waited for: {e}"),
+        }
+    }
+
+    /// Closes the input; the program is to end with status 0.
+    pub fn finish(mut self) -> Result<(), String> {
+        drop(self.requests.take());
+        match self.child.wait() {
+            Ok(status) if status.success() => Ok(()),
+            _ => Err(self.end()),
+        }
+    }
+}
+
+#[cfg(test)]
+mod tests {
+    use super::*;
+    use independent::lines::Line;
+
+    fn call(text: &str) -> Call {
+        Call::of_line(&Line::parse(text))
+    }
+
+    #[test]
+    fn the_bytes_of_a_batch() {
+        let inputs = [
+            Input::new(&call("inverse 258 | 3"), IN_FRONT),
+            Input::new(&call("order 3 | 4294967298 | 7 | | 9 9"), 0b101),
+        ];
+        let count = [2, 0, 0, 0];
+        let inverse = [0, 0, 2, 1, 0, 0, 0, 0, 0, 0, 0, 0, 0, 0, 3, 0, 0, 0];
+        let order = [1, 5, 3, 0, 0, 0, 2, 0, 0, 0, 1, 0, 0, 0, 0, 0, 0, 0];
+        let slices = [1, 0, 0, 0, 7, 0, 0, 0, 0, 2, 0, 0, 0, 9, 9];
+        let expected = [&count[..], &inverse, &order, &slices].concat();
+        assert_eq!(batch(&inputs), expected);
+    }
+
+    #[test]
+    fn the_numbers_of_an_answer() {
+        let seen = |text: &str| Seen::expected(&call(text)).numbers;
+        assert_eq!(seen("inverse 4 | 3"), [1, 0, 0, 0, 0, 0]);
+        assert_eq!(seen("inverse 5 | 3"), [0, 2, 0, 0, 0, 0]);
+        assert_eq!(seen("order 2 | 1 | 0 | 1 | 2*0"), [0, 1, 0, 0, 0, 0]);
+        assert_eq!(seen("image 2 | 1 | 0 | 1 | 1 | 0"), [0; NUMBERS]);
+        let proved = seen("stand 3 | 2 | 0 1 2 0 | 1 0 | 9 | 3*0 | 2*0");
+        assert_eq!(proved, [0, 1, 2, 1, 2, 0]);
+        let short = seen("stand 3 | 2 | 1 0 0 2 | 1 0 1 0 | 9 | 3*0 | 2*0");
+        assert_eq!(short, [0, 0, 1, 2, 2, 2]);
+        assert_eq!(seen("chain 2 | 1 | 0 | | 2*0 | 2*0"), [0, 1, 0, 0, 0, 0]);
+        assert_eq!(seen("period 3 | 2 | 0 1 2 0"), [0, 4, 0, 0, 0, 0]);
+        assert_eq!(seen("period 2 | 1 | 0"), [0; NUMBERS]);
+        assert_eq!(seen("sheet | 2048*0"), [0, 10, 0, 0, 0, 0]);
+    }
+
+    #[test]
+    fn a_response_is_read_whole() {
+        let call = call("order 3 | 2 | 4*0 | 2*0 | 4*7");
+        let expected = Seen::expected(&call);
+        let mut bytes: Vec<u8> = vec![];
+        for x in expected.numbers {
+            bytes.extend(x.to_le_bytes());
+        }
+        bytes.extend(expected.slices.concat());
+        let seen = Seen::read(&mut bytes.as_slice(), &call);
+        assert_eq!(seen.expect("the bytes are there"), expected);
+        assert!(Seen::read(&mut &bytes[1..], &call).is_err());
+    }
+
+    /// What is not there cannot be started, and a program that ends at once answers nothing.
+    #[test]
+    fn a_program_that_does_not_answer() {
+        let program = |word: &str| Program(vec![word.to_string()]);
+        assert!(Lender::start(&program("no-such-program")).is_err());
+        let ended = program("false");
+        let call = call("inverse 5 | 3");
+        let mut lender = Lender::start(&ended).expect("there is such a program");
+        let inputs = Input::on_both_sides(&call);
+        let expected = vec![Seen::expected(&call); 2];
+        let difference = lender.difference(&inputs, &expected);
+        let difference = difference.expect("nothing is answered");
+        assert_eq!(difference.place, 0);
+        assert!(difference.found.is_err());
+    }
+}
