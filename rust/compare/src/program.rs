@@ -8,6 +8,14 @@ use std::time::Duration;
 pub struct Program(pub Vec<String>);
 
 impl Program {
+    /// The words in front of the word `--`, and the program whose command is behind it.
+    pub fn behind_dashes(mut words: Vec<String>) -> Option<(Vec<String>, Program)> {
+        let at = words.iter().position(|word| word == "--")?;
+        let command = words.split_off(at + 1);
+        words.pop();
+        (!command.is_empty()).then_some((words, Program(command)))
+    }
+
     /// What it writes when it reads the input. It may leave a part of the input unread.
     pub fn run(&self, input: &[u8]) -> Vec<u8> {
         let child = self.start(input, Stdio::piped());

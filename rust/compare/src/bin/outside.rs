@@ -1,0 +1,190 @@
+//! Tries the built library from outside: the program `lend` makes the calls, and what is seen of each is held to the independent implementation, the
+//! answer and every slice whole:
+//!
+//!     outside [--lines FILE] [--cases FOLDER] [--faults TIMES SEED] [--kept FILE] -- PROGRAM..
+//!
+//! PROGRAM is the command that runs `lend`, an emulator's words first where it needs one.
+//!
+//! - `--lines`: the call of each line (`calls.rs`), on every choice of sides
+//! - `--cases`: the sheet of each file of the folder that ends in `.case`, with a buffer that has just enough bytes, one too few, and more
+//! - `--faults`: every call with up to three faults (`faults.rs`), so many times each, all slices in front and all behind
+//!
+//! A table of what was tried is printed, and the status is 0. At the first difference it is shown, its call is written to the file of `--kept` as a
+//! line that `--lines` takes, and the status is 1. It is 2 for wrong use, or where a file cannot be read or the program not be started.
+use compare::faults::{faulty, sets};
+use compare::lend::{Input, Lender, Seen};
+use compare::made::primes;
+use compare::program::Program;
+use compare::report::Differing;
+use compare::tally::Tally;
+use independent::calls::{Call, Name, SHEET_ROOM};
+use independent::lines::{is_comment, Line};
+use independent::numbers::Numbers;
+use std::path::Path;
+
+const MOST_FAULTS: usize = 3;
+/// How many inputs are sent at once, at least.
+const BATCH: usize = 1_000;
+/// What a buffer for a sheet holds before the call, and how many bytes more than enough the longest has.
+const HELD: u8 = 7;
+const SPARE: usize = 77;
+
+/// What is to be tried.
+#[derive(Default)]
+struct Options {
+    lines: Option<String>,
+    cases: Option<String>,
+    faults: Option<(u64, u64)>,
+    kept: Option<String>,
+}
+
+impl Options {
+    fn parse(words: Vec<String>) -> Option<Options> {
+        let mut options = Options::default();
+        let mut words = words.into_iter();
+        while let Some(word) = words.next() {
+            let value = words.next()?;
+            match word.as_str() {
+                "--lines" => options.lines = Some(value),
+                "--cases" => options.cases = Some(value),
+                "--kept" => options.kept = Some(value),
+                "--faults" => {
+                    options.faults = Some((value.parse().ok()?, words.next()?.parse().ok()?));
+                }
+                _ => return None,
+            }
+        }
+        Some(options)
+    }
+}
+
+/// The program with what waits to be sent to it.
+struct Run<'a> {
+    lender: Lender<'a>,
+    kept: Option<String>,
+    inputs: Vec<Input>,
+    expected: Vec<Seen>,
+    tally: Tally,
+}
+
+impl Run<'_> {
+    /// The same call on some sides.
+    fn hold(&mut self, inputs: impl IntoIterator<Item = Input>, call: &Call) {
+        let expected = Seen::expected(call);
+        for input in inputs {
+            self.tally.count(call.name, &expected);
+            self.inputs.push(input);
+            self.expected.push(expected.clone());
+        }
+        if BATCH <= self.inputs.len() {
+            self.send();
+        }
+    }
+
+    fn send(&mut self) {
+        let (inputs, expected) = (
+            std::mem::take(&mut self.inputs),
+            std::mem::take(&mut self.expected),
+        );
+        let Some(difference) = self.lender.difference(&inputs, &expected) else {
+            return;
+        };
+        let differing = Differing {
+            input: inputs[difference.place].clone(),
+            expected: expected[difference.place].clone(),
+            found: difference.found,
+        };
+        differing.show();
+        if let Some(file) = &self.kept {
+            differing.keep(file);
+        }
+        std::process::exit(1);
+    }
+
+    fn lines(&mut self, file: &str) -> Result<(), String> {
+        let text = std::fs::read_to_string(file).map_err(|e| format!("{file}: {e}"))?;
+        for line in text.lines().filter(|line| !is_comment(line)) {
+            let call = Call::of_line(&Line::parse(line));
+            self.hold(Input::on_all_sides(&call), &call);
+        }
+        Ok(())
+    }
+
+    fn cases(&mut self, folder: &str) -> Result<(), String> {
+        let why = |e: std::io::Error| format!("{folder}: {e}");
+        let entries = std::fs::read_dir(folder).map_err(why)?;
+        for entry in entries {
+            let path = entry.map_err(why)?.path();
+            if path.extension().is_some_and(|e| e == "case") {
+                self.case(&path).map_err(why)?;
+            }
+        }
+        Ok(())
+    }
+
+    fn case(&mut self, path: &Path) -> std::io::Result<()> {
+        let file = std::fs::read(path)?;
+        for room in [SHEET_ROOM, SHEET_ROOM - 1, SHEET_ROOM + SPARE] {
+            let call = Call {
+                name: Name::Sheet,
+                p: 0,
+                n: 0,
+                k: 0,
+                slices: vec![file.clone(), vec![HELD; room]],
+            };
+            self.hold(Input::on_all_sides(&call), &call);
+        }
+        Ok(())
+    }
+
+    fn faults(&mut self, times: u64, seed: u64) {
+        let (mut numbers, primes) = (Numbers(seed), primes());
+        for name in Name::ALL {
+            for set in sets(name, MOST_FAULTS) {
+                for _ in 0..times {
+                    if let Some(call) = faulty(&mut numbers, &primes, name, &set) {
+                        self.hold(Input::on_both_sides(&call), &call);
+                    }
+                }
+            }
+        }
+    }
+}
+
+fn run(options: Options, program: &Program) -> Result<(), String> {
+    let mut run = Run {
+        lender: Lender::start(program)?,
+        kept: options.kept,
+        inputs: vec![],
+        expected: vec![],
+        tally: Tally::default(),
+    };
+    if let Some(file) = options.lines {
+        run.lines(&file)?;
+    }
+    if let Some(folder) = options.cases {
+        run.cases(&folder)?;
+    }
+    if let Some((times, seed)) = options.faults {
+        run.faults(times, seed);
+    }
+    run.send();
+    println!("{}", run.tally);
+    run.lender.finish()?;
+    println!("{} inputs, no difference", run.tally.inputs());
+    Ok(())
+}
+
+fn main() {
+    let words = std::env::args().skip(1).collect();
+    let parsed = Program::behind_dashes(words)
+        .and_then(|(words, program)| Some((Options::parse(words)?, program)));
+    let Some((options, program)) = parsed else {
+        eprintln!("usage: outside [--lines FILE] [--cases FOLDER] [--faults TIMES SEED] [--kept FILE] -- PROGRAM..");
+        std::process::exit(2);
+    };
+    if let Err(why) = run(options, &program) {
+        eprintln!("outside: {why}");
+        std::process::exit(2);
+    }
+}

@@ -1,0 +1,337 @@
+//! Calls with faults: for every set of at most three of a call's tests, inputs to which these tests apply and no other. There are several ways to
+//! have each fault, and a set is made in all of them. A few ways bring a later fault with them: p = 0 leaves no entry that is below p, and a size
+//! past every slice leaves no slice of the right length.
+use crate::made::{candidates, machine};
+use independent::calls::{
+    Call, Name, BUFFERS, ENTRIES, MATRIX, MOST_COEFFICIENTS, POLYNOMIAL, PRIME, ROWS, SIZE, TABLE,
+    WIDEST,
+};
+use independent::case::MOST_CANDIDATES;
+use independent::naive::{is_prime, Matrix, Row};
+use independent::numbers::Numbers;
+
+/// A test that is to apply, and in which of its ways.
+#[derive(Debug, Clone, Copy, PartialEq, Eq)]
+pub struct Fault {
+    pub test: u8,
+    way: usize,
+}
+
+/// Which call runs which tests (`docs/CALLS.md`).
+fn tests(name: Name) -> &'static [u8] {
+    match name {
+        Name::Inverse => &[PRIME, ENTRIES],
+        Name::Order | Name::Stand | Name::Chain => &[PRIME, SIZE, MATRIX, ROWS, ENTRIES, BUFFERS],
+        Name::Image => &TABLE,
+        Name::Period => &[PRIME, SIZE, MATRIX, ENTRIES],
+        Name::Sheet => &[BUFFERS],
+    }
+}
+
+/// Every choice of at most so many of the tests, in every combination of their ways.
+pub fn sets(name: Name, most: usize) -> Vec<Vec<Fault>> {
+    let mut sets = vec![vec![]];
+    for &test in tests(name) {
+        let longer: Vec<Vec<Fault>> = sets
+            .iter()
+            .filter(|set: &&Vec<Fault>| set.len() < most)
+            .flat_map(|set| ways(name, test).map(|way| [&set[..], &[Fault { test, way }]].concat()))
+            .collect();
+        sets.extend(longer);
+    }
+    sets
+}
+
+fn ways(name: Name, test: u8) -> std::ops::Range<usize> {
+    let read = name.results().start;
+    0..match test {
+        PRIME => MODULI.len(),
+        SIZE => SIZES.len(),
+        MATRIX => 4,
+        ROWS => 4,
+        POLYNOMIAL => 3,
+        ENTRIES if name == Name::Inverse => 4,
+        ENTRIES => read * PLACES * VALUES,
+        _ => name.results().len() * SHORT,
+    }
+}
+
+/// No modulus, and what the entries are then drawn below. Those past a byte are a prime in their low bytes.
+const MODULI: [(u32, u64); 9] = [
+    (0, 1),
+    (1, 1),
+    (4, 4),
+    (252, 252),
+    (253, 253),
+    (255, 255),
+    (256 + 2, 2),
+    (65_536 + 3, 3),
+    (u32::MAX, 251),
+];
+
+/// No size, and the one by which the slices are laid out. Those past every slice are a size in their low bytes, or have a square that is.
+const SIZES: [(u64, usize); 6] = [
+    (0, 0),
+    (WIDEST + 1, WIDEST as usize + 1),
+    (WIDEST + 2, WIDEST as usize + 2),
+    ((1 << 32) + 2, 2),
+    (1 << 63, 3),
+    (u64::MAX, 1),
+];
+
+/// A bad entry is at the first, the middle or the last place of a list, and is p or 255.
+const PLACES: usize = 3;
+const VALUES: usize = 2;
+
+/// A buffer is a byte too short, or empty.
+const SHORT: usize = 2;
+
+/// The numbers of a call that its slices are made by.
+struct Draft {
+    p: u32,
+    /// Every entry is below it.
+    below: u64,
+    n: u64,
+    /// The size by which the slices are laid out.
+    laid: usize,
+}
+
+fn way_of(faults: &[Fault], test: u8) -> Option<usize> {
+    let found = faults.iter().find(|fault| fault.test == test);
+    found.map(|fault| fault.way)
+}
+
+impl Draft {
+    fn new(numbers: &mut Numbers, primes: &[u64], faults: &[Fault]) -> Draft {
+        let prime = numbers.one_of(primes);
+        let size = 1 + numbers.place(5);
+        let (p, below) = way_of(faults, PRIME).map_or((prime as u32, prime), |way| MODULI[way]);
+        let (n, laid) = way_of(faults, SIZE).map_or((size as u64, size), |way| SIZES[way]);
+        Draft { p, below, n, laid }
+    }
+
+    /// Whether there are such machines.
+    fn is_sound(&self) -> bool {
+        is_prime(self.p.into()) && (1..=WIDEST).contains(&self.n)
+    }
+
+    /// A machine of any kind, where there are such machines.
+    fn matrix(&self, numbers: &mut Numbers) -> Matrix {
+        if self.is_sound() {
+            machine(numbers, self.below, self.laid).0
+        } else {
+            numbers.matrix(self.below, self.laid)
+        }
+    }
+
+    fn candidates(&self, numbers: &mut Numbers, m: &Matrix) -> Vec<Row> {
+        if self.is_sound() {
+            candidates(numbers, self.below, m)
+        } else {
+            m.iter().take(2).cloned().collect()
+        }
+    }
+
+    /// What is read of each slice.
+    fn lists(&self, numbers: &mut Numbers, name: Name) -> Vec<Row> {
+        let m = self.matrix(numbers);
+        let row = numbers.row(self.below, self.laid);
+        let length = 1 + numbers.place(MOST_COEFFICIENTS);
+        match name {
+            Name::Inverse => vec![],
+            Name::Order => vec![m.concat(), row],
+            Name::Image => vec![m.concat(), row, numbers.row(self.below, length)],
+            Name::Stand | Name::Chain => vec![m.concat(), self.candidates(numbers, &m).concat()],
+            Name::Period => vec![m.concat()],
+            Name::Sheet => vec![numbers.row(256, length)],
+        }
+    }
+
+    /// A call without faults, but for those of its numbers.
+    fn call(&self, numbers: &mut Numbers, name: Name) -> Call {
+        let lists = self.lists(numbers, name);
+        let mut slices: Vec<Vec<u8>> = lists.iter().map(|list| bytes(list)).collect();
+        for room in name.rooms(self.laid) {
+            let spare = numbers.place(3);
+            slices.push(bytes(&numbers.row(256, room + spare)));
+        }
+        Call {
+            name,
+            p: self.p,
+            n: self.n,
+            k: numbers.below(self.below) as u32,
+            slices,
+        }
+    }
+}
+
+fn bytes(list: &[u64]) -> Vec<u8> {
+    list.iter().map(|&x| x as u8).collect()
+}
+
+/// A call with these faults, or nothing where it cannot have them all. They are made in the table's order, so that a list has its length before
+/// one of its entries is bad.
+pub fn faulty(numbers: &mut Numbers, primes: &[u64], name: Name, faults: &[Fault]) -> Option<Call> {
+    let draft = Draft::new(numbers, primes, faults);
+    let mut call = draft.call(numbers, name);
+    for &Fault { test, way } in faults {
+        match test {
+            PRIME | SIZE => {}
+            MATRIX => resize(&mut call.slices[0], square_sizes(draft.laid)[way])?,
+            ROWS => resize(&mut call.slices[1], row_sizes(name, draft.laid)[way])?,
+            POLYNOMIAL => call.slices[2] = vec![0; [0, MOST_COEFFICIENTS + 1, 255][way]],
+            ENTRIES if name == Name::Inverse => call.k = scalars(call.p)[way],
+            ENTRIES => spoil(&mut call, way)?,
+            _ => shorten(&mut call, draft.laid, way)?,
+        }
+    }
+    Some(call)
+}
+
+/// Lengths that a matrix is not to have; that of the next size is the last.
+fn square_sizes(n: usize) -> [Option<usize>; 4] {
+    let square = n * n;
+    let short = square.checked_sub(1);
+    let empty = (0 < n).then_some(0);
+    [short, Some(square + 1), empty, Some((n + 1) * (n + 1))]
+}
+
+/// Lengths that a row, or a list of candidates, is not to have.
+fn row_sizes(name: Name, n: usize) -> [Option<usize>; 4] {
+    if matches!(name, Name::Order | Name::Image) {
+        let longer = if n == 0 { 2 } else { 2 * n };
+        return [
+            n.checked_sub(1),
+            Some(n + 1),
+            (0 < n).then_some(0),
+            Some(longer),
+        ];
+    }
+    let most = MOST_CANDIDATES * n;
+    let ragged = |length: usize| (n != 1).then_some(length);
+    let over = (0 < n).then_some(most + n);
+    [
+        ragged(n + 1),
+        ragged(most.max(2) - 1),
+        over,
+        Some(most + n + 1),
+    ]
+}
+
+fn scalars(p: u32) -> [u32; 4] {
+    [p, p.saturating_add(1), p.saturating_add(256), u32::MAX]
+}
+
+/// The list with zeros added or its end taken off.
+fn resize(list: &mut Vec<u8>, length: Option<usize>) -> Option<()> {
+    list.resize(length?, 0);
+    Some(())
+}
+
+/// A bad entry in one of the lists that are read.
+fn spoil(call: &mut Call, way: usize) -> Option<()> {
+    let (list, rest) = (way / (PLACES * VALUES), way % (PLACES * VALUES));
+    let value = u8::try_from([call.p, 255][rest % VALUES]).ok()?;
+    let list = &mut call.slices[list];
+    let last = list.len().checked_sub(1)?;
+    list[[0, last / 2, last][rest / VALUES]] = value;
+    (call.p <= value.into()).then_some(())
+}
+
+/// A result buffer that is too short.
+fn shorten(call: &mut Call, n: usize, way: usize) -> Option<()> {
+    let room = call.name.rooms(n)[way / SHORT].checked_sub(1)?;
+    let buffer = &mut call.slices[call.name.results()][way / SHORT];
+    buffer.truncate([room, 0][way % SHORT]);
+    Some(())
+}
+
+#[cfg(test)]
+mod tests {
+    use super::*;
+    use crate::made::primes;
+    use independent::calls::refusal;
+
+    const MOST: usize = 3;
+
+    /// The tests that apply, each looked at by itself.
+    fn applying(call: &Call) -> Vec<u8> {
+        let n = u128::from(call.n);
+        let length = |k: usize| call.slices[k].len() as u128;
+        let applies = |test: u8| match test {
+            PRIME => !is_prime(call.p.into()),
+            SIZE => !(1..=64).contains(&n),
+            MATRIX => length(0) != n * n,
+            ROWS => match call.name {
+                Name::Order | Name::Image => length(1) != n,
+                _ if n == 0 => length(1) != 0,
+                _ => length(1) % n != 0 || 128 < length(1) / n,
+            },
+            POLYNOMIAL => !(1..=65).contains(&length(2)),
+            ENTRIES if call.name == Name::Inverse => call.p <= call.k,
+            ENTRIES => {
+                let read = &call.slices[..call.name.results().start];
+                read.concat().iter().any(|&x| call.p <= x.into())
+            }
+            _ => {
+                let rooms = call.name.rooms(call.n.min(66) as usize);
+                let mut buffers = call.slices[call.name.results()].iter().zip(rooms);
+                buffers.any(|(buffer, room)| buffer.len() < room)
+            }
+        };
+        let tests = tests(call.name).iter().copied();
+        tests.filter(|&test| applies(test)).collect()
+    }
+
+    /// Whether one fault is bound to bring others.
+    fn brings_others(call: &Call) -> bool {
+        call.p == 0 || 66 < call.n
+    }
+
+    #[test]
+    fn a_set_has_its_faults_and_no_other() {
+        let (mut numbers, primes) = (Numbers(1), primes());
+        for name in Name::ALL {
+            let mut made = 0;
+            for set in sets(name, MOST) {
+                let Some(call) = faulty(&mut numbers, &primes, name, &set) else {
+                    continue;
+                };
+                made += 1;
+                let named: Vec<u8> = set.iter().map(|fault| fault.test).collect();
+                if !brings_others(&call) {
+                    assert_eq!(applying(&call), named, "{}", call.line());
+                }
+                assert!(named.iter().all(|test| applying(&call).contains(test)));
+                assert_eq!(refusal(&call), named.first().copied(), "{}", call.line());
+            }
+            assert!(2 * made > sets(name, MOST).len(), "{name:?}: {made}");
+        }
+    }
+
+    /// Each set of at most three tests is made in some way.
+    #[test]
+    fn no_set_is_left_out() {
+        let (mut numbers, primes) = (Numbers(2), primes());
+        for name in Name::ALL {
+            let mut made: Vec<Vec<u8>> = vec![];
+            for set in sets(name, MOST) {
+                if faulty(&mut numbers, &primes, name, &set).is_some() {
+                    made.push(set.iter().map(|fault| fault.test).collect());
+                }
+            }
+            made.sort();
+            made.dedup();
+            let count = tests(name).len();
+            let choose = |k: usize| (0..k).fold(1, |c, i| c * (count - i.min(count)) / (i + 1));
+            assert_eq!(made.len(), (0..=MOST).map(choose).sum(), "{name:?}");
+        }
+    }
+
+    #[test]
+    fn at_most_so_many_faults() {
+        let lengths: Vec<usize> = sets(Name::Inverse, 1).iter().map(Vec::len).collect();
+        assert_eq!(lengths.len(), 1 + MODULI.len() + 4);
+        assert!(lengths.iter().all(|&x| x <= 1));
+    }
+}
