@@ -1,13 +1,12 @@
 //! Calls with faults: for every set of at most three of a call's tests, inputs to which these tests apply and no other. There are several ways to
 //! have each fault, and a set is made in all of them. A few ways bring a later fault with them: p = 0 leaves no entry that is below p, and a size
 //! past every slice leaves no slice of the right length.
-use crate::made::{candidates, machine};
+use crate::draft::Draft;
 use independent::calls::{
     Call, Name, BUFFERS, ENTRIES, MATRIX, MOST_COEFFICIENTS, POLYNOMIAL, PRIME, ROWS, SIZE, TABLE,
     WIDEST,
 };
 use independent::case::MOST_CANDIDATES;
-use independent::naive::{is_prime, Matrix, Row};
 use independent::numbers::Numbers;
 
 /// A test that is to apply, and in which of its ways.
@@ -83,96 +82,33 @@ const SIZES: [(u64, usize); 6] = [
 const PLACES: usize = 3;
 const VALUES: usize = 2;
 
+/// The most rows of a machine whose size is sound.
+const MOST_ROWS: usize = 5;
+
 /// A buffer is a byte too short, or empty.
 const SHORT: usize = 2;
-
-/// The numbers of a call that its slices are made by.
-struct Draft {
-    p: u32,
-    /// Every entry is below it.
-    below: u64,
-    n: u64,
-    /// The size by which the slices are laid out.
-    laid: usize,
-}
 
 fn way_of(faults: &[Fault], test: u8) -> Option<usize> {
     let found = faults.iter().find(|fault| fault.test == test);
     found.map(|fault| fault.way)
 }
 
-impl Draft {
-    fn new(numbers: &mut Numbers, primes: &[u64], faults: &[Fault]) -> Draft {
-        let prime = numbers.one_of(primes);
-        let size = 1 + numbers.place(5);
-        let (p, below) = way_of(faults, PRIME).map_or((prime as u32, prime), |way| MODULI[way]);
-        let (n, laid) = way_of(faults, SIZE).map_or((size as u64, size), |way| SIZES[way]);
-        Draft { p, below, n, laid }
+fn draft(numbers: &mut Numbers, primes: &[u64], faults: &[Fault]) -> Draft {
+    let prime = numbers.one_of(primes);
+    let mut draft = Draft::sound(prime, 1 + numbers.place(MOST_ROWS));
+    if let Some(way) = way_of(faults, PRIME) {
+        (draft.p, draft.below) = MODULI[way];
     }
-
-    /// Whether there are such machines.
-    fn is_sound(&self) -> bool {
-        is_prime(self.p.into()) && (1..=WIDEST).contains(&self.n)
+    if let Some(way) = way_of(faults, SIZE) {
+        (draft.n, draft.laid) = SIZES[way];
     }
-
-    /// A machine of any kind, where there are such machines.
-    fn matrix(&self, numbers: &mut Numbers) -> Matrix {
-        if self.is_sound() {
-            machine(numbers, self.below, self.laid).0
-        } else {
-            numbers.matrix(self.below, self.laid)
-        }
-    }
-
-    fn candidates(&self, numbers: &mut Numbers, m: &Matrix) -> Vec<Row> {
-        if self.is_sound() {
-            candidates(numbers, self.below, m)
-        } else {
-            m.iter().take(2).cloned().collect()
-        }
-    }
-
-    /// What is read of each slice.
-    fn lists(&self, numbers: &mut Numbers, name: Name) -> Vec<Row> {
-        let m = self.matrix(numbers);
-        let row = numbers.row(self.below, self.laid);
-        let length = 1 + numbers.place(MOST_COEFFICIENTS);
-        match name {
-            Name::Inverse => vec![],
-            Name::Order => vec![m.concat(), row],
-            Name::Image => vec![m.concat(), row, numbers.row(self.below, length)],
-            Name::Stand | Name::Chain => vec![m.concat(), self.candidates(numbers, &m).concat()],
-            Name::Period => vec![m.concat()],
-            Name::Sheet => vec![numbers.row(256, length)],
-        }
-    }
-
-    /// A call without faults, but for those of its numbers.
-    fn call(&self, numbers: &mut Numbers, name: Name) -> Call {
-        let lists = self.lists(numbers, name);
-        let mut slices: Vec<Vec<u8>> = lists.iter().map(|list| bytes(list)).collect();
-        for room in name.rooms(self.laid) {
-            let spare = numbers.place(3);
-            slices.push(bytes(&numbers.row(256, room + spare)));
-        }
-        Call {
-            name,
-            p: self.p,
-            n: self.n,
-            k: numbers.below(self.below) as u32,
-            slices,
-        }
-    }
-}
-
-fn bytes(list: &[u64]) -> Vec<u8> {
-    list.iter().map(|&x| x as u8).collect()
+    draft
 }
 
 /// A call with these faults, or nothing where it cannot have them all. They are made in the table's order, so that a list has its length before
 /// one of its entries is bad.
 pub fn faulty(numbers: &mut Numbers, primes: &[u64], name: Name, faults: &[Fault]) -> Option<Call> {
-    let draft = Draft::new(numbers, primes, faults);
+    let draft = draft(numbers, primes, faults);
     let mut call = draft.call(numbers, name);
     for &Fault { test, way } in faults {
         match test {
@@ -251,6 +187,7 @@ mod tests {
     use super::*;
     use crate::made::primes;
     use independent::calls::refusal;
+    use independent::naive::is_prime;
 
     const MOST: usize = 3;
 

@@ -1,5 +1,5 @@
 //! What is said of a difference, and where its call is kept.
-use crate::lend::{Input, Seen};
+use crate::lend::{Difference, Input, Seen};
 
 /// A call that was not answered as it is to be.
 #[derive(Debug)]
@@ -11,6 +11,15 @@ pub struct Differing {
 }
 
 impl Differing {
+    /// The difference of a batch.
+    pub fn of(difference: Difference, inputs: &[Input], expected: &[Seen]) -> Differing {
+        Differing {
+            input: inputs[difference.place].clone(),
+            expected: expected[difference.place].clone(),
+            found: difference.found,
+        }
+    }
+
     /// Prints the call, what was expected and what was found.
     pub fn show(&self) {
         let slices = 0..self.input.call.name.slices();

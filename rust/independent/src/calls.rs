@@ -47,6 +47,7 @@ pub enum Name {
 }
 
 /// What a group of a line is: a number of the call, or the next slice.
+#[derive(PartialEq, Eq)]
 enum Part {
     P,
     N,
@@ -166,6 +167,14 @@ impl Call {
         };
         let groups: Vec<String> = self.name.parts().iter().map(group).collect();
         format!("{} {}", self.name.word(), groups.join(" | "))
+    }
+
+    /// Sets the numbers that it does not take to 0.
+    pub fn drop_unused(&mut self) {
+        let parts = self.name.parts();
+        self.p *= u32::from(parts.contains(&Part::P));
+        self.n *= u64::from(parts.contains(&Part::N));
+        self.k *= u32::from(parts.contains(&Part::K));
     }
 
     fn size(&self) -> usize {

@@ -21,6 +21,7 @@ use independent::calls::{Call, Name, SHEET_ROOM};
 use independent::lines::{is_comment, Line};
 use independent::numbers::Numbers;
 use std::path::Path;
+use std::process::exit;
 
 const MOST_FAULTS: usize = 3;
 /// How many inputs are sent at once, at least.
@@ -89,16 +90,12 @@ impl Run<'_> {
         let Some(difference) = self.lender.difference(&inputs, &expected) else {
             return;
         };
-        let differing = Differing {
-            input: inputs[difference.place].clone(),
-            expected: expected[difference.place].clone(),
-            found: difference.found,
-        };
+        let differing = Differing::of(difference, &inputs, &expected);
         differing.show();
         if let Some(file) = &self.kept {
             differing.keep(file);
         }
-        std::process::exit(1);
+        exit(1);
     }
 
     fn lines(&mut self, file: &str) -> Result<(), String> {
@@ -170,7 +167,10 @@ fn run(options: Options, program: &Program) -> Result<(), String> {
     }
     run.send();
     println!("{}", run.tally);
-    run.lender.finish()?;
+    if let Err(ended) = run.lender.finish() {
+        println!("{ended}");
+        exit(1);
+    }
     println!("{} inputs, no difference", run.tally.inputs());
     Ok(())
 }
@@ -181,10 +181,10 @@ fn main() {
         .and_then(|(words, program)| Some((Options::parse(words)?, program)));
     let Some((options, program)) = parsed else {
         eprintln!("usage: outside [--lines FILE] [--cases FOLDER] [--faults TIMES SEED] [--kept FILE] -- PROGRAM..");
-        std::process::exit(2);
+        exit(2);
     };
     if let Err(why) = run(options, &program) {
         eprintln!("outside: {why}");
-        std::process::exit(2);
+        exit(2);
     }
 }

@@ -1,0 +1,364 @@
+//! Changes of a call: those that may spoil it, and one that makes it sound again.
+use crate::lend::LONGEST;
+use crate::made::{case_of, shuffle, smudge, MARK};
+use independent::calls::{Call, Name, MOST_COEFFICIENTS, SHEET_ROOM, WIDEST};
+use independent::case::{Case, MOST_CANDIDATES};
+use independent::grammar;
+use independent::naive::{is_prime, Row};
+use independent::numbers::Numbers;
+
+/// Moduli that are none, the ends of the range, and numbers whose low bytes are a prime.
+const MODULI: [u32; 18] = [
+    0,
+    1,
+    2,
+    3,
+    4,
+    5,
+    7,
+    9,
+    121,
+    221,
+    251,
+    252,
+    253,
+    255,
+    256,
+    258,
+    65_538,
+    u32::MAX,
+];
+
+/// Sizes at the ends of the range, and numbers whose low bytes are a size.
+const SIZES: [u64; 14] = [
+    0,
+    1,
+    2,
+    63,
+    64,
+    65,
+    66,
+    128,
+    255,
+    256,
+    258,
+    (1 << 32) + 1,
+    1 << 63,
+    u64::MAX,
+];
+
+const ALLOWANCES: [u32; 9] = [0, 1, 2, 64, 127, 128, 8_192, 1 << 31, u32::MAX];
+
+/// Lengths at the ends of the ranges of rows, polynomials and lists.
+const LENGTHS: [usize; 8] = [1, 2, 64, 65, 66, 128, 129, 4_096];
+
+/// The largest size of a call that is mended, but for a few.
+const SMALL: u64 = 8;
+const LARGE_ONCE_IN: u64 = 60;
+
+/// The largest allowance that a case can state.
+const MOST_STATED: u32 = 16_383;
+
+/// A size that a call can have.
+pub fn some_size(numbers: &mut Numbers) -> u64 {
+    let most = if numbers.once_in(LARGE_ONCE_IN) {
+        WIDEST
+    } else {
+        SMALL
+    };
+    1 + numbers.below(most)
+}
+
+/// A change of anything that is lent.
+pub fn mutate(numbers: &mut Numbers, call: &mut Call) {
+    if call.name == Name::Sheet {
+        mutate_sheet(numbers, call);
+    } else {
+        mutate_numbers_or_slices(numbers, call);
+    }
+    call.drop_unused();
+    call.slices.iter_mut().for_each(|s| s.truncate(LONGEST));
+}
+
+fn mutate_numbers_or_slices(numbers: &mut Numbers, call: &mut Call) {
+    match numbers.below(12) {
+        0 => call.p = near_or_one_of(numbers, call.p.into(), &MODULI.map(u64::from)) as u32,
+        1 => call.n = near_or_one_of(numbers, call.n, &SIZES),
+        2 => call.k = near_or_one_of(numbers, call.k.into(), &ALLOWANCES.map(u64::from)) as u32,
+        3 => resized(numbers, call),
+        4..=6 => change_row(numbers, call),
+        7 | 8 => change_entry(numbers, call),
+        9 => change_length(numbers, call),
+        _ => smudge_slice(numbers, call),
+    }
+}
+
+/// One more, one less, or a telling number.
+fn near_or_one_of(numbers: &mut Numbers, x: u64, telling: &[u64]) -> u64 {
+    match numbers.below(3) {
+        0 => x.wrapping_add(1),
+        1 => x.wrapping_sub(1),
+        _ => numbers.one_of(telling),
+    }
+}
+
+/// Another size, and slices to it.
+fn resized(numbers: &mut Numbers, call: &mut Call) {
+    call.n = some_size(numbers);
+    mend(numbers, call);
+}
+
+/// One of the slices, where there are any.
+fn some_slice<'a>(numbers: &mut Numbers, slices: &'a mut [Vec<u8>]) -> Option<&'a mut Vec<u8>> {
+    if slices.is_empty() {
+        return None;
+    }
+    let at = numbers.place(slices.len());
+    slices.get_mut(at)
+}
+
+fn smudge_slice(numbers: &mut Numbers, call: &mut Call) {
+    if let Some(slice) = some_slice(numbers, &mut call.slices) {
+        smudge(numbers, slice);
+    }
+}
+
+/// A slice without a byte, with one less or one more, or of a telling length.
+fn change_length(numbers: &mut Numbers, call: &mut Call) {
+    let Some(slice) = some_slice(numbers, &mut call.slices) else {
+        return;
+    };
+    match numbers.below(4) {
+        0 => slice.clear(),
+        1 => drop(slice.pop()),
+        2 => slice.push(0),
+        _ => fit(slice, numbers.one_of(&LENGTHS)),
+    }
+}
+
+/// An entry, mostly one below p.
+fn change_entry(numbers: &mut Numbers, call: &mut Call) {
+    let below = u64::from(call.p.clamp(1, 255)) + u64::from(numbers.once_in(16));
+    let read = &mut call.slices[..call.name.results().start];
+    if let Some(list) = some_slice(numbers, read).filter(|list| !list.is_empty()) {
+        let at = numbers.place(list.len());
+        list[at] = numbers.below(below) as u8;
+    }
+}
+
+/// A row of the matrix or of a list becomes another row, a unit row or zero.
+fn change_row(numbers: &mut Numbers, call: &mut Call) {
+    let n = call.n.clamp(1, WIDEST) as usize;
+    let read = &mut call.slices[..call.name.results().start];
+    let Some(list) = some_slice(numbers, read).filter(|list| n <= list.len()) else {
+        return;
+    };
+    let rows = list.len() / n;
+    let (to, from) = (n * numbers.place(rows), n * numbers.place(rows));
+    match numbers.below(4) {
+        0 => list[to..to + n].fill(0),
+        1 => {
+            list[to..to + n].fill(0);
+            list[to + numbers.place(n)] = 1;
+        }
+        _ => list.copy_within(from..from + n, to),
+    }
+}
+
+fn mutate_sheet(numbers: &mut Numbers, call: &mut Call) {
+    let [file, buffer] = &mut call.slices[..] else {
+        unreachable!("a sheet has a file and a buffer");
+    };
+    match numbers.below(16) {
+        0 => buffer.resize(SHEET_ROOM - numbers.place(2), 0),
+        1 => smudge(numbers, buffer),
+        2..=7 if !file.is_empty() => {
+            let number = |at: usize| file.get(at).copied().unwrap_or(1);
+            let (p, n) = (number(2), usize::from(number(3)));
+            *file = shuffle(numbers, records(file), p, n);
+        }
+        _ => smudge(numbers, file),
+    }
+}
+
+/// The bytes of a file cut in front of each mark.
+fn records(file: &[u8]) -> Vec<Vec<u8>> {
+    let pieces = file.chunk_by(|_, &next| next != MARK);
+    pieces.map(<[u8]>::to_vec).collect()
+}
+
+/// Whatever is wrong with the call is put right, with as little change as is easy.
+pub fn mend(numbers: &mut Numbers, call: &mut Call) {
+    match call.name {
+        Name::Sheet => mend_sheet(numbers, call),
+        Name::Inverse => {
+            call.p = prime_of(call.p);
+            call.k %= call.p;
+        }
+        _ => mend_machine(numbers, call),
+    }
+}
+
+/// The number if it is a modulus, else the largest one that is not above what is left of it.
+fn prime_of(p: u32) -> u32 {
+    let most = if is_prime(p.into()) { p } else { p % 252 };
+    let found = (2..=most).rev().find(|&q| is_prime(q.into()));
+    found.unwrap_or(2)
+}
+
+fn mend_machine(numbers: &mut Numbers, call: &mut Call) {
+    call.p = prime_of(call.p);
+    if !(1..=WIDEST).contains(&call.n) {
+        call.n = some_size(numbers);
+    }
+    let n = call.n as usize;
+    let read = call.name.results().start;
+    for (k, list) in call.slices[..read].iter_mut().enumerate() {
+        let length = match (k, call.name) {
+            (0, _) => n * n,
+            (1, Name::Order | Name::Image) => n,
+            (1, _) => n * (list.len() / n).min(MOST_CANDIDATES),
+            _ => list.len().clamp(1, MOST_COEFFICIENTS),
+        };
+        fit(list, length);
+        list.iter_mut()
+            .for_each(|x| *x = (u32::from(*x) % call.p) as u8);
+    }
+    make_room(call);
+}
+
+/// The front of a list, or the list again and again; zeros where it is empty.
+fn fit(list: &mut Vec<u8>, length: usize) {
+    let there = list.len();
+    list.resize(length, 0);
+    for k in there.max(1)..length {
+        list[k] = list[k - there.max(1)];
+    }
+}
+
+fn make_room(call: &mut Call) {
+    let rooms = call.name.rooms(call.n as usize);
+    let buffers = &mut call.slices[call.name.results()];
+    for (buffer, room) in buffers.iter_mut().zip(rooms) {
+        let length = buffer.len().max(room);
+        buffer.resize(length, 0);
+    }
+}
+
+/// A file that is a case is changed as the stand of its values is, and stays a case; any other is replaced.
+fn mend_sheet(numbers: &mut Numbers, call: &mut Call) {
+    let wide: Row = call.slices[0].iter().map(|&x| x.into()).collect();
+    call.slices[0] = match grammar::values(&wide) {
+        Some(values) => {
+            let mut stand = stand_of(&values);
+            mutate_numbers_or_slices(numbers, &mut stand);
+            mend(numbers, &mut stand);
+            file_of(numbers, &stand)
+        }
+        None => some_file(numbers),
+    };
+    make_room(call);
+}
+
+/// The file of a small machine.
+pub fn some_file(numbers: &mut Numbers) -> Vec<u8> {
+    let p = numbers.one_of(&[2, 2, 3, 5, 7, 251]);
+    let n = some_size(numbers) as usize;
+    case_of(numbers, p, n).0.bytes()
+}
+
+fn stand_of(values: &grammar::Case) -> Call {
+    let bytes = |list: &[u64]| list.iter().map(|&x| x as u8).collect();
+    Call {
+        name: Name::Stand,
+        p: values.p as u32,
+        n: values.n,
+        k: values.allowance as u32,
+        slices: vec![
+            bytes(&values.matrix),
+            bytes(&values.candidates),
+            vec![],
+            vec![],
+        ],
+    }
+}
+
+/// The case that a stand without a fault is of. The allowance is now and then left out.
+fn file_of(numbers: &mut Numbers, stand: &Call) -> Vec<u8> {
+    let wide = |row: &[u8]| row.iter().map(|&x| x.into()).collect();
+    let rows = |k: usize| stand.slices[k].chunks(stand.n as usize).map(wide).collect();
+    let stated = (!numbers.once_in(4)).then_some(stand.k.min(MOST_STATED).into());
+    let case = Case {
+        p: stand.p.into(),
+        matrix: rows(0),
+        candidates: rows(1),
+        stated,
+    };
+    case.bytes()
+}
+
+#[cfg(test)]
+mod tests {
+    use super::*;
+    use independent::calls::refusal;
+    use independent::lines::Line;
+
+    const LINES: [&str; 7] = [
+        "inverse 0 | 999",
+        "order 4 | 0 | | 255 | ",
+        "image 300 | 2 | 1 2 3 | | | 1",
+        "stand 2 | 3 | 9*255 | 7*1 | 5 | | ",
+        "chain 251 | 1 | 0 | 200*9 | | 1",
+        "period 1 | 18446744073709551615 | 5*5",
+        "sheet 255 70 | 12*0",
+    ];
+
+    fn calls() -> impl Iterator<Item = Call> {
+        LINES.iter().map(|text| Call::of_line(&Line::parse(text)))
+    }
+
+    #[test]
+    fn what_is_mended_is_not_refused() {
+        let mut numbers = Numbers(1);
+        for mut call in calls() {
+            for _ in 0..50 {
+                mend(&mut numbers, &mut call);
+                assert_eq!(refusal(&call), None, "{}", call.line());
+                mutate(&mut numbers, &mut call);
+                mutate(&mut numbers, &mut call);
+            }
+        }
+    }
+
+    #[test]
+    fn a_sheet_that_is_mended_is_of_a_case() {
+        let mut numbers = Numbers(2);
+        let mut call = calls().last().expect("the sheet");
+        for _ in 0..100 {
+            mend(&mut numbers, &mut call);
+            let wide: Row = call.slices[0].iter().map(|&x| x.into()).collect();
+            assert!(grammar::values(&wide).is_some(), "{}", call.line());
+        }
+    }
+
+    /// What is sound already is not changed by mending.
+    #[test]
+    fn what_is_sound_stays() {
+        let text = "chain 3 | 2 | 0 1 2 0 | 1 0 2 2 | 3*7 | 5*9";
+        let call = Call::of_line(&Line::parse(text));
+        let mut mended = call.clone();
+        mend(&mut Numbers(3), &mut mended);
+        assert_eq!(mended, call);
+    }
+
+    #[test]
+    fn no_slice_is_too_long_to_be_lent() {
+        let mut numbers = Numbers(4);
+        let mut call = calls().last().expect("the sheet");
+        call.slices[0] = vec![MARK; LONGEST];
+        for _ in 0..200 {
+            mutate(&mut numbers, &mut call);
+            assert!(call.slices.iter().all(|slice| slice.len() <= LONGEST));
+        }
+    }
+}
