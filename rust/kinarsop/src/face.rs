@@ -1,0 +1,286 @@
+//! The face of the library, and a safe function over each of its calls. All that is unsafe in this crate is in this file.
+//!
+//! The face answers every number and every length. What it asks of a caller is about memory alone, and Rust's slices give it:
+//! - a pointer is good for as many bytes as the length beside it says, and those of a result may be written: a slice is just that;
+//! - nothing else touches the bytes during the call: inputs are lent by `&`, results by `&mut`;
+//! - slices lent to one call share no byte: `&mut` shares with nothing, but two slices lent by `&` may, and then [`apart`] copies one.
+//!
+//! The library keeps no pointer and nothing between two calls.
+use std::borrow::Cow;
+
+/// Room for every polynomial: 65 coefficients.
+pub(crate) const POLYNOMIAL_ROOM: usize = 65;
+/// Room for every row: 64 entries.
+pub(crate) const ROW_ROOM: usize = 64;
+/// Room for the stages of every chain: 2 bytes a row of the matrix.
+pub(crate) const STAGES_ROOM: usize = 128;
+/// Room for every sheet.
+pub(crate) const SHEET_ROOM: usize = 2_048;
+
+// What the calls return. `refusal` is 0 where a call is answered; else it is the number of the refusal, and all else is 0.
+
+#[repr(C)]
+pub(crate) struct InverseAnswer {
+    pub(crate) refusal: u8,
+    pub(crate) inverse: u8,
+}
+
+#[repr(C)]
+pub(crate) struct OrderAnswer {
+    pub(crate) refusal: u8,
+    pub(crate) degree: usize,
+}
+
+/// The witness is counted from 1, and 0 where the stand is proved.
+#[repr(C)]
+pub(crate) struct StandAnswer {
+    pub(crate) refusal: u8,
+    pub(crate) proved: bool,
+    pub(crate) degree: usize,
+    pub(crate) taken: usize,
+    pub(crate) spent: u32,
+    pub(crate) witness: usize,
+}
+
+#[repr(C)]
+pub(crate) struct ChainAnswer {
+    pub(crate) refusal: u8,
+    pub(crate) stages: usize,
+}
+
+/// The period is 0 where there is none.
+#[repr(C)]
+pub(crate) struct PeriodAnswer {
+    pub(crate) refusal: u8,
+    pub(crate) period: u32,
+}
+
+#[repr(C)]
+pub(crate) struct SheetAnswer {
+    pub(crate) refusal: u8,
+    pub(crate) length: usize,
+}
+
+// As in include/kinarsop.h.
+extern "C" {
+    fn kinarsop_inverse(p: u32, a: u32) -> InverseAnswer;
+
+    fn kinarsop_order(
+        p: u32,
+        n: usize,
+        m: *const u8,
+        m_length: usize,
+        v: *const u8,
+        v_length: usize,
+        out: *mut u8,
+        out_length: usize,
+    ) -> OrderAnswer;
+
+    fn kinarsop_image(
+        p: u32,
+        n: usize,
+        m: *const u8,
+        m_length: usize,
+        v: *const u8,
+        v_length: usize,
+        f: *const u8,
+        f_length: usize,
+        out: *mut u8,
+        out_length: usize,
+    ) -> u8;
+
+    fn kinarsop_stand(
+        p: u32,
+        n: usize,
+        m: *const u8,
+        m_length: usize,
+        cs: *const u8,
+        cs_length: usize,
+        allowance: u32,
+        poly: *mut u8,
+        poly_length: usize,
+        image: *mut u8,
+        image_length: usize,
+    ) -> StandAnswer;
+
+    fn kinarsop_chain(
+        p: u32,
+        n: usize,
+        m: *const u8,
+        m_length: usize,
+        cs: *const u8,
+        cs_length: usize,
+        product: *mut u8,
+        product_length: usize,
+        stages: *mut u8,
+        stages_length: usize,
+    ) -> ChainAnswer;
+
+    fn kinarsop_period(p: u32, n: usize, m: *const u8, m_length: usize) -> PeriodAnswer;
+
+    fn kinarsop_sheet(
+        file: *const u8,
+        file_length: usize,
+        out: *mut u8,
+        out_length: usize,
+    ) -> SheetAnswer;
+}
+
+/// The slice itself where it shares no byte with any of the others, else a copy of it.
+fn apart<'a>(slice: &'a [u8], others: &[&[u8]]) -> Cow<'a, [u8]> {
+    let own = slice.as_ptr_range();
+    let shares = |other: &&[u8]| {
+        let other = other.as_ptr_range();
+        own.start < other.end && other.start < own.end
+    };
+    if others.iter().any(shares) {
+        Cow::Owned(slice.to_vec())
+    } else {
+        Cow::Borrowed(slice)
+    }
+}
+
+pub(crate) fn inverse(p: u32, a: u32) -> InverseAnswer {
+    // SAFETY: no memory is lent.
+    unsafe { kinarsop_inverse(p, a) }
+}
+
+pub(crate) fn order(
+    p: u32,
+    n: usize,
+    matrix: &[u8],
+    row: &[u8],
+    polynomial: &mut [u8],
+) -> OrderAnswer {
+    let row = apart(row, &[matrix]);
+    // SAFETY: each pointer comes with its slice's length, the slices live beyond the call, only the one lent by `&mut` is written, and no two
+    // share a byte: the row and the matrix are apart.
+    unsafe {
+        kinarsop_order(
+            p,
+            n,
+            matrix.as_ptr(),
+            matrix.len(),
+            row.as_ptr(),
+            row.len(),
+            polynomial.as_mut_ptr(),
+            polynomial.len(),
+        )
+    }
+}
+
+/// What is returned is the refusal.
+pub(crate) fn image(
+    p: u32,
+    n: usize,
+    matrix: &[u8],
+    row: &[u8],
+    polynomial: &[u8],
+    image: &mut [u8],
+) -> u8 {
+    let row = apart(row, &[matrix]);
+    let polynomial = apart(polynomial, &[matrix, &row]);
+    // SAFETY: each pointer comes with its slice's length, the slices live beyond the call, only the one lent by `&mut` is written, and no two
+    // share a byte: the row and the matrix are apart, and the polynomial from both.
+    unsafe {
+        kinarsop_image(
+            p,
+            n,
+            matrix.as_ptr(),
+            matrix.len(),
+            row.as_ptr(),
+            row.len(),
+            polynomial.as_ptr(),
+            polynomial.len(),
+            image.as_mut_ptr(),
+            image.len(),
+        )
+    }
+}
+
+pub(crate) fn stand(
+    p: u32,
+    n: usize,
+    matrix: &[u8],
+    candidates: &[u8],
+    allowance: u32,
+    polynomial: &mut [u8],
+    image: &mut [u8],
+) -> StandAnswer {
+    let candidates = apart(candidates, &[matrix]);
+    // SAFETY: each pointer comes with its slice's length, the slices live beyond the call, only those lent by `&mut` are written, and no two
+    // share a byte: the candidates and the matrix are apart.
+    unsafe {
+        kinarsop_stand(
+            p,
+            n,
+            matrix.as_ptr(),
+            matrix.len(),
+            candidates.as_ptr(),
+            candidates.len(),
+            allowance,
+            polynomial.as_mut_ptr(),
+            polynomial.len(),
+            image.as_mut_ptr(),
+            image.len(),
+        )
+    }
+}
+
+pub(crate) fn chain(
+    p: u32,
+    n: usize,
+    matrix: &[u8],
+    candidates: &[u8],
+    product: &mut [u8],
+    stages: &mut [u8],
+) -> ChainAnswer {
+    let candidates = apart(candidates, &[matrix]);
+    // SAFETY: each pointer comes with its slice's length, the slices live beyond the call, only those lent by `&mut` are written, and no two
+    // share a byte: the candidates and the matrix are apart.
+    unsafe {
+        kinarsop_chain(
+            p,
+            n,
+            matrix.as_ptr(),
+            matrix.len(),
+            candidates.as_ptr(),
+            candidates.len(),
+            product.as_mut_ptr(),
+            product.len(),
+            stages.as_mut_ptr(),
+            stages.len(),
+        )
+    }
+}
+
+pub(crate) fn period(p: u32, n: usize, matrix: &[u8]) -> PeriodAnswer {
+    // SAFETY: the pointer comes with its slice's length, and the slice lives beyond the call; nothing is written.
+    unsafe { kinarsop_period(p, n, matrix.as_ptr(), matrix.len()) }
+}
+
+pub(crate) fn sheet(file: &[u8], text: &mut [u8]) -> SheetAnswer {
+    // SAFETY: each pointer comes with its slice's length, the slices live beyond the call, only the one lent by `&mut` is written, and it shares
+    // no byte with the other.
+    unsafe { kinarsop_sheet(file.as_ptr(), file.len(), text.as_mut_ptr(), text.len()) }
+}
+
+#[cfg(test)]
+mod tests {
+    use super::*;
+
+    #[test]
+    fn slices_that_share_bytes_are_copied() {
+        let bytes = [1, 2, 3, 4, 5, 6];
+        let copied = |slice, other| matches!(apart(slice, &[other]), Cow::Owned(_));
+        assert!(copied(&bytes[..3], &bytes[2..]));
+        assert!(copied(&bytes[2..], &bytes[..3]));
+        assert!(copied(&bytes[2..4], &bytes));
+        assert!(copied(&bytes, &bytes[2..4]));
+        assert!(copied(&bytes, &bytes));
+        assert!(!copied(&bytes[..3], &bytes[3..]));
+        assert!(!copied(&bytes[3..], &bytes[..3]));
+        assert!(!copied(&[], &bytes));
+        assert_eq!(*apart(&bytes[2..4], &[&[], &bytes]), [3, 4]);
+    }
+}

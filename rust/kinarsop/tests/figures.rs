@@ -1,0 +1,107 @@
+//! 01's figures P1 to P11, and the inverses.
+use kinarsop::{chain, inverse, period, stand, Chain, Stand};
+
+fn proved(minimal_polynomial: &[u8], taken: usize, spent: u32) -> Stand {
+    Stand::Proved {
+        minimal_polynomial: minimal_polynomial.to_vec(),
+        taken,
+        spent,
+    }
+}
+
+fn short(divisor: &[u8], taken: usize, spent: u32, witness: usize, image: &[u8]) -> Stand {
+    Stand::Short {
+        divisor: divisor.to_vec(),
+        witness,
+        image: image.to_vec(),
+        taken,
+        spent,
+    }
+}
+
+fn chained(stages: &[&[u8]], product: &[u8]) -> Chain {
+    Chain {
+        stages: stages.iter().map(|q| q.to_vec()).collect(),
+        product: product.to_vec(),
+    }
+}
+
+#[test]
+fn p1_no_candidates() {
+    let expected = short(&[1], 0, 0, 1, &[1]);
+    assert_eq!(stand(2, 1, &[0], &[], 9), Ok(expected));
+}
+
+#[test]
+fn p2_zero_row_costs_nothing() {
+    let expected = short(&[1], 1, 0, 1, &[1]);
+    assert_eq!(stand(2, 1, &[0], &[0, 1], 0), Ok(expected));
+}
+
+#[test]
+fn p3_nilpotent() {
+    assert_eq!(stand(2, 1, &[0], &[1], 1), Ok(proved(&[0, 1], 1, 1)));
+}
+
+#[test]
+fn p4_p5_allowance() {
+    let (m, c) = ([0, 1, 2, 0], [1, 0]);
+    assert_eq!(stand(3, 2, &m, &c, 1), Ok(short(&[1], 0, 0, 1, &[1, 0])));
+    assert_eq!(stand(3, 2, &m, &c, 2), Ok(proved(&[1, 0, 1], 1, 2)));
+    let expected = chained(&[&[1, 0, 1]], &[1, 0, 1]);
+    assert_eq!(chain(3, 2, &m, &c), Ok(expected));
+    assert_eq!(period(3, 2, &m), Ok(Some(4)));
+}
+
+#[test]
+fn p6_identity() {
+    let (m, c) = ([1, 0, 0, 1], [1, 0]);
+    assert_eq!(stand(5, 2, &m, &c, 9), Ok(proved(&[4, 1], 1, 1)));
+    let expected = chained(&[&[4, 1], &[4, 1]], &[1, 3, 1]);
+    assert_eq!(chain(5, 2, &m, &c), Ok(expected));
+    assert_eq!(period(5, 2, &m), Ok(Some(1)));
+}
+
+#[test]
+fn p7_p8_p9_diagonal() {
+    let m = [1, 0, 0, 2];
+    let expected = short(&[2, 1], 2, 2, 2, &[0, 1]);
+    assert_eq!(stand(3, 2, &m, &[1, 0, 1, 0], 9), Ok(expected));
+    let expected = proved(&[2, 0, 1], 2, 2);
+    assert_eq!(stand(3, 2, &m, &[1, 0, 0, 1], 9), Ok(expected));
+    assert_eq!(period(3, 2, &m), Ok(Some(2)));
+    let expected = short(&[1], 0, 0, 1, &[1, 0]);
+    assert_eq!(stand(3, 2, &m, &[1, 1, 0, 0], 1), Ok(expected));
+}
+
+#[test]
+fn p10_p11_rows_and_not_columns() {
+    let m = [0, 1, 0, 0];
+    let expected = short(&[0, 1], 1, 1, 1, &[0, 1]);
+    assert_eq!(stand(2, 2, &m, &[0, 1], 9), Ok(expected));
+    let expected = chained(&[&[0, 1], &[0, 1]], &[0, 0, 1]);
+    assert_eq!(chain(2, 2, &m, &[0, 1]), Ok(expected));
+    assert_eq!(period(2, 2, &m), Ok(None));
+    let expected = proved(&[0, 0, 1], 1, 2);
+    assert_eq!(stand(2, 2, &m, &[1, 0], 9), Ok(expected));
+    let expected = chained(&[&[0, 0, 1]], &[0, 0, 1]);
+    assert_eq!(chain(2, 2, &m, &[1, 0]), Ok(expected));
+}
+
+#[test]
+fn what_a_stand_says_of_itself() {
+    let proved = stand(3, 2, &[1, 0, 0, 2], &[1, 0, 0, 1], 9).unwrap();
+    assert_eq!(proved.minimal_polynomial(), Some(&[2, 0, 1][..]));
+    assert_eq!((proved.taken(), proved.spent()), (2, 2));
+    let short = stand(3, 2, &[1, 0, 0, 2], &[1, 0, 1, 1], 2).unwrap();
+    assert_eq!(short.minimal_polynomial(), None);
+    assert_eq!((short.taken(), short.spent()), (1, 1));
+}
+
+#[test]
+fn inverses() {
+    for p in [2, 3, 5, 7, 127, 251] {
+        assert_eq!(inverse(p, 0), Ok(0));
+        assert!((1..p).all(|a| a * u32::from(inverse(p, a).unwrap()) % p == 1));
+    }
+}

@@ -1,0 +1,45 @@
+//! Every sample case gives the sheet that is stored beside it.
+use kinarsop::{sheet, Refusal};
+use std::fs;
+
+#[test]
+fn sample_cases() {
+    let folder = concat!(env!("CARGO_MANIFEST_DIR"), "/../../cases");
+    let (mut sheets, mut refused) = (0, 0);
+    for entry in fs::read_dir(folder).expect("the samples are there") {
+        let path = entry.expect("a sample").path();
+        if path.extension().is_some_and(|e| e == "case") {
+            let file = fs::read(&path).expect("a case");
+            let stored = fs::read_to_string(path.with_extension("sheet")).expect("its sheet");
+            match sheet(&file) {
+                Ok(text) => {
+                    assert_eq!(text, stored, "{path:?}");
+                    sheets += 1;
+                }
+                Err(refusal) => {
+                    assert_eq!(refusal.number(), 8);
+                    let Refusal::File { place } = refusal else {
+                        panic!("{path:?}: {refusal}");
+                    };
+                    assert_eq!(format!("REFUSED {place}\n"), stored, "{path:?}");
+                    refused += 1;
+                }
+            }
+        }
+    }
+    assert!(sheets != 0 && refused != 0);
+}
+
+#[test]
+fn files_that_are_no_case() {
+    assert_eq!(sheet(&[]), Err(Refusal::File { place: 0 }));
+    assert_eq!(sheet(b"REFUSED 5\n"), Err(Refusal::File { place: 0 }));
+    let file = *b"\xffF\x03\x02\xffR\x00\x01\xffR\x02\x00\xffC\x01\x00\xffE";
+    for length in 0..file.len() {
+        let expected = Err(Refusal::File { place: length });
+        assert_eq!(sheet(&file[..length]), expected);
+    }
+    let mut long = vec![255; 1 << 20];
+    long[..file.len()].copy_from_slice(&file);
+    assert_eq!(sheet(&long), Err(Refusal::File { place: file.len() }));
+}
