@@ -21,7 +21,7 @@
 //! - A polynomial is listed by its coefficients, from the lowest to the leading 1: `[1, 0, 1]` is 1 + x².
 //!
 //! Anything else is refused: see [`Refusal`], which says what is wrong and what to do. Slices may share bytes, as a row of the matrix does that is
-//! lent as a candidate too.
+//! lent as a candidate too. The library keeps nothing between two calls, so that several threads may call at once; 256 KiB of stack are enough for each.
 //!
 //! # What proved and short are worth
 //!

@@ -7,7 +7,8 @@
 /// it does not fit.
 ///
 /// From short to proved: put the unit row that the witness names behind the candidates, and call again. From at most 64 candidates and with
-/// [`DEFAULT_ALLOWANCE`](crate::DEFAULT_ALLOWANCE) this ends in proved after at most n additions.
+/// [`DEFAULT_ALLOWANCE`](crate::DEFAULT_ALLOWANCE) or more this ends in proved after at most n − d additions, where d is the degree of the first
+/// divisor.
 ///
 /// ```
 /// use kinarsop::{stand, Stand, DEFAULT_ALLOWANCE};

@@ -1,0 +1,214 @@
+//! The library against the independent implementation, on made inputs that are the same in every run.
+use independent::naive::{self, Matrix, Row};
+use independent::numbers::Numbers;
+use independent::sheet::printed;
+use kinarsop::{chain, image, inverse, order, period, sheet, stand, Chain, Refusal, Stand};
+
+const PRIMES: [u64; 10] = [2, 2, 2, 3, 3, 5, 7, 11, 127, 251];
+
+fn bytes(list: &[u64]) -> Vec<u8> {
+    list.iter().map(|&x| x as u8).collect()
+}
+
+/// A made machine with candidates and an allowance.
+struct Made {
+    p: u64,
+    n: usize,
+    matrix: Matrix,
+    candidates: Vec<Row>,
+    allowance: u64,
+}
+
+impl Made {
+    /// Full, sparse, diagonal and block matrices, so that all standings and many stages come up.
+    fn new(numbers: &mut Numbers, largest: usize) -> Self {
+        let p = numbers.one_of(&PRIMES);
+        let n = 1 + numbers.place(largest);
+        let mut matrix = numbers.matrix(p, n);
+        let (shape, split) = (numbers.below(5), numbers.place(n));
+        for (i, row) in matrix.iter_mut().enumerate() {
+            for (j, x) in row.iter_mut().enumerate() {
+                let kept = match shape {
+                    0 | 1 => true,
+                    2 => numbers.once_in(n as u64),
+                    3 => i == j || i + 1 == j,
+                    _ => (i < split) == (j < split),
+                };
+                if !kept {
+                    *x = 0;
+                } else if shape == 3 {
+                    *x %= 3;
+                }
+            }
+        }
+        let count = numbers.place(5);
+        let candidates = (0..count)
+            .map(|_| match numbers.below(4) {
+                0 => naive::unit_row(n, numbers.place(n)),
+                1 => vec![0; n],
+                _ => numbers.row(p, n),
+            })
+            .collect();
+        let allowance = numbers.one_of(&[0, 1, n as u64, 2 * n as u64, 8_192, 8_192]);
+        Made {
+            p,
+            n,
+            matrix,
+            candidates,
+            allowance,
+        }
+    }
+
+    fn p(&self) -> u32 {
+        self.p as u32
+    }
+
+    fn matrix(&self) -> Vec<u8> {
+        bytes(&self.matrix.concat())
+    }
+
+    fn candidates(&self) -> Vec<u8> {
+        bytes(&self.candidates.concat())
+    }
+
+    /// The case file, with an allowance below 16,384.
+    fn file(&self) -> Vec<u8> {
+        let mut file = vec![255, b'F', self.p as u8, self.n as u8];
+        let allowance = [self.allowance / 128, self.allowance % 128];
+        let stated = [(b'A', bytes(&allowance))];
+        let rows = self.matrix.iter().map(|v| (b'R', bytes(v)));
+        let candidates = self.candidates.iter().map(|v| (b'C', bytes(v)));
+        for (letter, numbers) in stated.into_iter().chain(rows).chain(candidates) {
+            file.extend([255, letter]);
+            file.extend(numbers);
+        }
+        file.extend([255, b'E']);
+        file
+    }
+}
+
+fn expected_stand(found: naive::Stand) -> Stand {
+    let (taken, spent) = (found.taken, found.spent as u32);
+    if found.proved {
+        Stand::Proved {
+            minimal_polynomial: bytes(&found.polynomial),
+            taken,
+            spent,
+        }
+    } else {
+        Stand::Short {
+            divisor: bytes(&found.polynomial),
+            witness: found.witness,
+            image: bytes(&found.image),
+            taken,
+            spent,
+        }
+    }
+}
+
+#[test]
+fn inverses() {
+    for p in (0..=251).filter(|&p| naive::is_prime(p)) {
+        for a in 0..p {
+            let expected = naive::inverse(p, a) as u8;
+            assert_eq!(inverse(p as u32, a as u32), Ok(expected));
+        }
+    }
+}
+
+#[test]
+fn orders_and_images() {
+    let mut numbers = Numbers(11);
+    for _ in 0..3_000 {
+        let made = Made::new(&mut numbers, 9);
+        let v = numbers.row(made.p, made.n);
+        let expected = naive::order(made.p, &made.matrix, &v);
+        let found = order(made.p(), made.n, &made.matrix(), &bytes(&v));
+        assert_eq!(found, Ok(bytes(&expected)));
+
+        let length = 1 + numbers.place(65);
+        let f = numbers.row(made.p, length);
+        let expected = naive::image(made.p, &v, &f, &made.matrix);
+        let found = image(made.p(), made.n, &made.matrix(), &bytes(&v), &bytes(&f));
+        assert_eq!(found, Ok(bytes(&expected)));
+    }
+}
+
+#[test]
+fn stands_and_chains() {
+    let mut numbers = Numbers(12);
+    let mut proved = 0;
+    const COUNT: usize = 3_000;
+    for _ in 0..COUNT {
+        let made = Made::new(&mut numbers, 9);
+        let expected = naive::stand(made.p, &made.matrix, &made.candidates, made.allowance);
+        proved += usize::from(expected.proved);
+        let allowance = made.allowance as u32;
+        let found = stand(
+            made.p(),
+            made.n,
+            &made.matrix(),
+            &made.candidates(),
+            allowance,
+        )
+        .unwrap();
+        if let Some(f) = found.minimal_polynomial() {
+            assert_eq!(f, bytes(&naive::minimal_polynomial(made.p, &made.matrix)));
+        }
+        assert_eq!(found, expected_stand(expected));
+
+        let expected = naive::chain(made.p, &made.matrix, &made.candidates);
+        let expected = Chain {
+            stages: expected.stages.iter().map(|q| bytes(q)).collect(),
+            product: bytes(&expected.product),
+        };
+        let found = chain(made.p(), made.n, &made.matrix(), &made.candidates());
+        assert_eq!(found, Ok(expected));
+    }
+    assert!((COUNT / 5..COUNT * 4 / 5).contains(&proved), "{proved}");
+}
+
+#[test]
+fn periods() {
+    let mut numbers = Numbers(13);
+    let mut none = 0;
+    const COUNT: usize = 1_000;
+    for _ in 0..COUNT {
+        let made = Made::new(&mut numbers, 5);
+        let expected = naive::period(made.p, &made.matrix);
+        none += usize::from(expected.is_none());
+        let found = period(made.p(), made.n, &made.matrix());
+        assert_eq!(found, Ok(expected.map(|t| t as u32)));
+    }
+    assert!((COUNT / 5..COUNT * 4 / 5).contains(&none), "{none}");
+}
+
+/// Case files, whole and with a byte changed, left out or put in. They are few and small: the independent reader tries every shape of a case at every
+/// front of a file.
+#[test]
+fn sheets() {
+    let mut numbers = Numbers(14);
+    let mut refused = 0;
+    const COUNT: usize = 100;
+    for _ in 0..COUNT {
+        let mut file = Made::new(&mut numbers, 3).file();
+        let at = numbers.place(file.len());
+        let byte = numbers.one_of(&[0, 1, 2, 128, 255, b'A', b'R', b'C', b'E']);
+        match numbers.below(6) {
+            0 => file[at] = byte,
+            1 => file.insert(at, byte),
+            2 => drop(file.remove(at)),
+            _ => (),
+        }
+        let found = match sheet(&file) {
+            Ok(text) => text,
+            Err(Refusal::File { place }) => {
+                refused += 1;
+                format!("REFUSED {place}\n")
+            }
+            Err(refusal) => panic!("{refusal}"),
+        };
+        assert_eq!(found, printed(&file));
+    }
+    assert!((COUNT / 5..COUNT * 4 / 5).contains(&refused), "{refused}");
+}
