@@ -1,8 +1,9 @@
 //! A call that is made by its numbers alone: a machine of n rows, what else is read, and result buffers with some bytes in them. The numbers need
 //! not be such that the call is sound.
-use crate::made::{candidates, machine};
+use crate::made::{candidates, machine, stated};
 use independent::calls::{Call, Name, MOST_COEFFICIENTS, WIDEST};
-use independent::naive::{is_prime, Matrix, Row};
+use independent::case::DEFAULT_ALLOWANCE;
+use independent::naive::{is_prime, Matrix, Row, LARGEST_PRIME};
 use independent::numbers::Numbers;
 
 /// The numbers of a call that its slices are made by.
@@ -59,7 +60,14 @@ impl Draft {
             Name::Image => vec![m.concat(), row, numbers.row(self.below, length)],
             Name::Stand | Name::Chain => vec![m.concat(), self.candidates(numbers, &m).concat()],
             Name::Period => vec![m.concat()],
-            Name::Sheet => vec![numbers.row(256, length)],
+            Name::Sheet => vec![numbers.row(LARGEST_PRIME, length)],
+        }
+    }
+
+    fn scalar_or_allowance(&self, numbers: &mut Numbers, name: Name) -> u64 {
+        match name {
+            Name::Stand => stated(numbers, self.laid).unwrap_or(DEFAULT_ALLOWANCE),
+            _ => numbers.below(self.below),
         }
     }
 
@@ -69,13 +77,13 @@ impl Draft {
         let mut slices: Vec<Vec<u8>> = lists.iter().map(|list| bytes(list)).collect();
         for room in name.rooms(self.laid) {
             let spare = numbers.place(3);
-            slices.push(bytes(&numbers.row(256, room + spare)));
+            slices.push(numbers.bytes(room + spare));
         }
         let mut call = Call {
             name,
             p: self.p,
             n: self.n,
-            k: numbers.below(self.below) as u32,
+            k: self.scalar_or_allowance(numbers, name) as u32,
             slices,
         };
         call.drop_unused();
@@ -83,7 +91,7 @@ impl Draft {
     }
 }
 
-pub fn bytes(list: &[u64]) -> Vec<u8> {
+fn bytes(list: &[u64]) -> Vec<u8> {
     list.iter().map(|&x| x as u8).collect()
 }
 

@@ -225,22 +225,27 @@ impl<'a> Lender<'a> {
         })
     }
 
-    /// Closes the input and says how the program ended.
-    fn end(&mut self) -> String {
+    /// Closes the input, reads what is still written, and says how the program ended; nothing where it wrote no more and all is well.
+    fn close(&mut self) -> Option<String> {
         drop(self.requests.take());
+        let more = self.responses.by_ref().bytes().count();
         match self.child.wait() {
-            Ok(status) => format!("the program ended, {status}"),
-            Err(e) => format!("the program cannot be waited for: {e}"),
+            Ok(status) if !status.success() => Some(format!("the program ended, {status}")),
+            Ok(_) if more != 0 => Some(format!("the program wrote {more} bytes too many")),
+            Ok(_) => None,
+            Err(e) => Some(format!("the program cannot be waited for: {e}")),
         }
     }
 
-    /// Closes the input; the program is to end with status 0.
+    /// How a program ended that did not answer.
+    fn end(&mut self) -> String {
+        let ended = self.close();
+        ended.unwrap_or_else(|| "the program ended before it answered".to_string())
+    }
+
+    /// Where all batches were answered, the program is to write no more, and to end with status 0.
     pub fn finish(mut self) -> Result<(), String> {
-        drop(self.requests.take());
-        match self.child.wait() {
-            Ok(status) if status.success() => Ok(()),
-            _ => Err(self.end()),
-        }
+        self.close().map_or(Ok(()), Err)
     }
 }
 

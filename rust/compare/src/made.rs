@@ -1,11 +1,13 @@
 //! Cases that look random and are the same in every run: machines of many kinds, with candidates and allowances of many kinds, and files with faults.
 use independent::case::{Case, MOST_CANDIDATES};
-use independent::naive::{companion, identity, is_prime, times_matrix, unit_row, Matrix, Row};
+use independent::naive::{
+    companion, identity, is_prime, times_matrix, unit_row, Matrix, Row, LARGEST_PRIME,
+};
 use independent::numbers::Numbers;
 
 /// Every modulus that a call takes.
 pub fn primes() -> Vec<u64> {
-    (2..=251).filter(|&p| is_prime(p)).collect()
+    (2..=LARGEST_PRIME).filter(|&p| is_prime(p)).collect()
 }
 
 fn zeros(n: usize) -> Matrix {
@@ -182,12 +184,16 @@ pub fn candidates(numbers: &mut Numbers, p: u64, m: &Matrix) -> Vec<Row> {
     rows
 }
 
-fn stated(numbers: &mut Numbers, n: usize) -> Option<u64> {
+/// The largest allowance that a case can state.
+pub const MOST_STATED: u64 = 16_383;
+
+/// The allowance that a case states, where it states one.
+pub fn stated(numbers: &mut Numbers, n: usize) -> Option<u64> {
     match numbers.below(8) {
         0 => Some(0),
         1..=3 => Some(numbers.below(3 * n as u64 + 1)),
-        4 => Some(16_383),
-        5 => Some(numbers.below(16_384)),
+        4 => Some(MOST_STATED),
+        5 => Some(numbers.below(MOST_STATED + 1)),
         _ => None,
     }
 }

@@ -1,10 +1,10 @@
 //! Changes of a call: those that may spoil it, and one that makes it sound again.
 use crate::lend::LONGEST;
-use crate::made::{case_of, shuffle, smudge, MARK};
+use crate::made::{case_of, shuffle, smudge, MARK, MOST_STATED};
 use independent::calls::{Call, Name, MOST_COEFFICIENTS, SHEET_ROOM, WIDEST};
 use independent::case::{Case, MOST_CANDIDATES};
 use independent::grammar;
-use independent::naive::{is_prime, Row};
+use independent::naive::{is_prime, Row, LARGEST_PRIME};
 use independent::numbers::Numbers;
 
 /// Moduli that are none, the ends of the range, and numbers whose low bytes are a prime.
@@ -52,12 +52,12 @@ const ALLOWANCES: [u32; 9] = [0, 1, 2, 64, 127, 128, 8_192, 1 << 31, u32::MAX];
 /// Lengths at the ends of the ranges of rows, polynomials and lists.
 const LENGTHS: [usize; 8] = [1, 2, 64, 65, 66, 128, 129, 4_096];
 
+/// Small primes are the more, for machines that come round soon.
+const CHEAP_PRIMES: [u64; 6] = [2, 2, 3, 5, 7, LARGEST_PRIME];
+
 /// The largest size of a call that is mended, but for a few.
 const SMALL: u64 = 8;
 const LARGE_ONCE_IN: u64 = 60;
-
-/// The largest allowance that a case can state.
-const MOST_STATED: u32 = 16_383;
 
 /// A size that a call can have.
 pub fn some_size(numbers: &mut Numbers) -> u64 {
@@ -170,7 +170,7 @@ fn mutate_sheet(numbers: &mut Numbers, call: &mut Call) {
         unreachable!("a sheet has a file and a buffer");
     };
     match numbers.below(16) {
-        0 => buffer.resize(SHEET_ROOM - numbers.place(2), 0),
+        0 => fit(buffer, SHEET_ROOM - numbers.place(2)),
         1 => smudge(numbers, buffer),
         2..=7 if !file.is_empty() => {
             let number = |at: usize| file.get(at).copied().unwrap_or(1);
@@ -199,11 +199,11 @@ pub fn mend(numbers: &mut Numbers, call: &mut Call) {
     }
 }
 
-/// The number if it is a modulus, else the largest one that is not above what is left of it.
+/// The number if it is a modulus, else the largest one that is not above it, or not above what is left of it.
 fn prime_of(p: u32) -> u32 {
-    let most = if is_prime(p.into()) { p } else { p % 252 };
-    let found = (2..=most).rev().find(|&q| is_prime(q.into()));
-    found.unwrap_or(2)
+    let most = u64::from(p) % (LARGEST_PRIME + 1);
+    let found = (2..=most).rev().find(|&q| is_prime(q));
+    found.unwrap_or(2) as u32
 }
 
 fn mend_machine(numbers: &mut Numbers, call: &mut Call) {
@@ -262,7 +262,7 @@ fn mend_sheet(numbers: &mut Numbers, call: &mut Call) {
 
 /// The file of a small machine.
 pub fn some_file(numbers: &mut Numbers) -> Vec<u8> {
-    let p = numbers.one_of(&[2, 2, 3, 5, 7, 251]);
+    let p = numbers.one_of(&CHEAP_PRIMES);
     let n = some_size(numbers) as usize;
     case_of(numbers, p, n).0.bytes()
 }
@@ -287,7 +287,7 @@ fn stand_of(values: &grammar::Case) -> Call {
 fn file_of(numbers: &mut Numbers, stand: &Call) -> Vec<u8> {
     let wide = |row: &[u8]| row.iter().map(|&x| x.into()).collect();
     let rows = |k: usize| stand.slices[k].chunks(stand.n as usize).map(wide).collect();
-    let stated = (!numbers.once_in(4)).then_some(stand.k.min(MOST_STATED).into());
+    let stated = (!numbers.once_in(4)).then_some(MOST_STATED.min(stand.k.into()));
     let case = Case {
         p: stand.p.into(),
         matrix: rows(0),

@@ -1,11 +1,11 @@
 //! The inputs of the fuzzer, in rounds of a fixed size. A round depends on the seed and on its number alone, so that it is the same whoever makes it.
 //! It begins with a pool of sound calls of every kind. An input is a call of the pool that is changed some times over, and takes that call's place; so
 //! changes add up. Two inputs in five are made sound again.
-use crate::draft::{bytes, Draft};
+use crate::draft::Draft;
 use crate::lend::Input;
 use crate::mutate::{mend, mutate, some_file, some_size};
 use independent::calls::{refusal, Call, Name, SHEET_ROOM};
-use independent::naive::PERIOD_LIMIT;
+use independent::naive::{LARGEST_PRIME, PERIOD_LIMIT};
 use independent::numbers::Numbers;
 
 /// How many inputs a round has.
@@ -21,6 +21,9 @@ const POOL: [(Name, usize); 7] = [
     (Name::Period, 7),
     (Name::Sheet, 10),
 ];
+
+/// The moduli of the pool.
+const PRIMES: [u64; 9] = [2, 2, 3, 5, 7, 13, 127, 241, LARGEST_PRIME];
 
 const MOST_CHANGES: u64 = 4;
 
@@ -63,7 +66,7 @@ fn sound(numbers: &mut Numbers, name: Name) -> Call {
     if name == Name::Sheet {
         return sheet(numbers);
     }
-    let p = numbers.one_of(&[2, 2, 3, 5, 7, 13, 127, 241, 251]);
+    let p = numbers.one_of(&PRIMES);
     let n = some_size(numbers) as usize;
     Draft::sound(p, n).call(numbers, name)
 }
@@ -79,7 +82,7 @@ fn sheet(numbers: &mut Numbers) -> Call {
         p: 0,
         n: 0,
         k: 0,
-        slices: vec![file, bytes(&numbers.row(256, SHEET_ROOM + 1))],
+        slices: vec![file, numbers.bytes(SHEET_ROOM + 1)],
     }
 }
 

@@ -29,6 +29,10 @@ impl Numbers {
         (0..n).map(|_| self.below(p)).collect()
     }
 
+    pub fn bytes(&mut self, length: usize) -> Vec<u8> {
+        (0..length).map(|_| self.below(256) as u8).collect()
+    }
+
     pub fn matrix(&mut self, p: u64, n: usize) -> Matrix {
         (0..n).map(|_| self.row(p, n)).collect()
     }

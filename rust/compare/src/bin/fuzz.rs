@@ -52,7 +52,7 @@ fn parse(words: &[String]) -> Option<(Plan, &str)> {
         return None;
     };
     let plan = Plan {
-        count: count.parse().ok()?,
+        count: count.parse().ok().filter(|&count| 0 < count)?,
         seconds: seconds.parse().ok()?,
         seed: seed.parse().ok()?,
     };

@@ -20,7 +20,8 @@ use compare::tally::Tally;
 use independent::calls::{Call, Name, SHEET_ROOM};
 use independent::lines::{is_comment, Line};
 use independent::numbers::Numbers;
-use std::path::Path;
+use std::fs::DirEntry;
+use std::path::PathBuf;
 use std::process::exit;
 
 const MOST_FAULTS: usize = 3;
@@ -108,30 +109,24 @@ impl Run<'_> {
     }
 
     fn cases(&mut self, folder: &str) -> Result<(), String> {
-        let why = |e: std::io::Error| format!("{folder}: {e}");
-        let entries = std::fs::read_dir(folder).map_err(why)?;
-        for entry in entries {
-            let path = entry.map_err(why)?.path();
-            if path.extension().is_some_and(|e| e == "case") {
-                self.case(&path).map_err(why)?;
-            }
+        let files = case_files(folder).map_err(|e| format!("{folder}: {e}"))?;
+        for file in files {
+            self.case(&file);
         }
         Ok(())
     }
 
-    fn case(&mut self, path: &Path) -> std::io::Result<()> {
-        let file = std::fs::read(path)?;
+    fn case(&mut self, file: &[u8]) {
         for room in [SHEET_ROOM, SHEET_ROOM - 1, SHEET_ROOM + SPARE] {
             let call = Call {
                 name: Name::Sheet,
                 p: 0,
                 n: 0,
                 k: 0,
-                slices: vec![file.clone(), vec![HELD; room]],
+                slices: vec![file.to_vec(), vec![HELD; room]],
             };
             self.hold(Input::on_all_sides(&call), &call);
         }
-        Ok(())
     }
 
     fn faults(&mut self, times: u64, seed: u64) {
@@ -146,6 +141,15 @@ impl Run<'_> {
             }
         }
     }
+}
+
+/// The files of a folder that end in `.case`, in the sequence of their names.
+fn case_files(folder: &str) -> std::io::Result<Vec<Vec<u8>>> {
+    let entries: Vec<DirEntry> = std::fs::read_dir(folder)?.collect::<Result<_, _>>()?;
+    let mut paths: Vec<PathBuf> = entries.iter().map(DirEntry::path).collect();
+    paths.retain(|path| path.extension().is_some_and(|e| e == "case"));
+    paths.sort();
+    paths.iter().map(std::fs::read).collect()
 }
 
 fn run(options: Options, program: &Program) -> Result<(), String> {
@@ -166,6 +170,9 @@ fn run(options: Options, program: &Program) -> Result<(), String> {
         run.faults(times, seed);
     }
     run.send();
+    if run.tally.inputs() == 0 {
+        return Err("there is nothing to try".to_string());
+    }
     println!("{}", run.tally);
     if let Err(ended) = run.lender.finish() {
         println!("{ended}");
