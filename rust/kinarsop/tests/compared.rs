@@ -183,8 +183,7 @@ fn periods() {
     assert!((COUNT / 5..COUNT * 4 / 5).contains(&none), "{none}");
 }
 
-/// Case files, whole and with a byte changed, left out or put in. They are few and small: the independent reader tries every shape of a case at every
-/// front of a file.
+/// Case files, whole and with a byte changed, left out or put in. They are few and small, since the independent reader tries every shape of a case.
 #[test]
 fn sheets() {
     let mut numbers = Numbers(14);

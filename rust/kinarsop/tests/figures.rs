@@ -1,5 +1,5 @@
-//! 01's figures P1 to P11, and the inverses.
-use kinarsop::{chain, inverse, period, stand, Chain, Stand};
+//! 01's figures P1 to P11, and orders, images and inverses that are seen at a glance.
+use kinarsop::{chain, image, inverse, order, period, stand, Chain, Stand};
 
 fn proved(minimal_polynomial: &[u8], taken: usize, spent: u32) -> Stand {
     Stand::Proved {
@@ -96,6 +96,30 @@ fn what_a_stand_says_of_itself() {
     let short = stand(3, 2, &[1, 0, 0, 2], &[1, 0, 1, 1], 2).unwrap();
     assert_eq!(short.minimal_polynomial(), None);
     assert_eq!((short.taken(), short.spent()), (1, 1));
+}
+
+#[test]
+fn orders() {
+    let m = [1, 0, 0, 2];
+    assert_eq!(order(3, 2, &m, &[0, 0]), Ok(vec![1]));
+    assert_eq!(order(3, 2, &m, &[1, 0]), Ok(vec![2, 1]));
+    assert_eq!(order(3, 2, &m, &[0, 2]), Ok(vec![1, 1]));
+    assert_eq!(order(3, 2, &m, &[1, 1]), Ok(vec![2, 0, 1]));
+    let m = [0, 1, 0, 0];
+    assert_eq!(order(2, 2, &m, &[1, 0]), Ok(vec![0, 0, 1]));
+    assert_eq!(order(2, 2, &m, &[0, 1]), Ok(vec![0, 1]));
+}
+
+#[test]
+fn images() {
+    let m = [1, 0, 0, 2];
+    let of = |f: &[u8]| image(3, 2, &m, &[1, 1], f).unwrap();
+    assert_eq!(of(&[0]), [0, 0]);
+    assert_eq!(of(&[2]), [2, 2]);
+    assert_eq!(of(&[0, 1]), [1, 2]);
+    assert_eq!(of(&[2, 0, 1]), [0, 0]);
+    assert_eq!(of(&[0, 1, 0, 0, 0]), [1, 2]);
+    assert_eq!(image(2, 2, &[0, 1, 0, 0], &[1, 0], &[0, 1]), Ok(vec![0, 1]));
 }
 
 #[test]
