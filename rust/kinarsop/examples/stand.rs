@@ -1,11 +1,11 @@
 //! Prints the stand of a matrix of two rows modulo 3: `cargo run --example stand`.
-use kinarsop::{stand, Stand, DEFAULT_ALLOWANCE};
+use kinarsop::{stand, Stand, FULL_ALLOWANCE};
 use std::process::ExitCode;
 
 fn main() -> ExitCode {
     let matrix = [0, 1, 2, 0];
     let candidates = [1, 0];
-    match stand(3, 2, &matrix, &candidates, DEFAULT_ALLOWANCE) {
+    match stand(3, 2, &matrix, &candidates, FULL_ALLOWANCE) {
         Ok(Stand::Proved {
             minimal_polynomial, ..
         }) => {

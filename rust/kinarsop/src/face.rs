@@ -13,7 +13,7 @@ pub(crate) const POLYNOMIAL_ROOM: usize = 65;
 /// Room for every row: 64 entries.
 pub(crate) const ROW_ROOM: usize = 64;
 /// Room for the stages of every chain: 2 bytes a row of the matrix.
-pub(crate) const STAGES_ROOM: usize = 128;
+pub(crate) const STAGE_ROOM: usize = 128;
 /// Room for every sheet.
 pub(crate) const SHEET_ROOM: usize = 2_048;
 

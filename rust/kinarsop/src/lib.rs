@@ -3,10 +3,10 @@
 //! of it is proved to meet its contract for every input; of this crate, which only carries the values over, nothing is proved.
 //!
 //! ```
-//! use kinarsop::{stand, Stand, DEFAULT_ALLOWANCE};
+//! use kinarsop::{stand, Stand, FULL_ALLOWANCE};
 //!
 //! // Two rows modulo 3, (0, 1) and (2, 0), and one candidate, (1, 0).
-//! match stand(3, 2, &[0, 1, 2, 0], &[1, 0], DEFAULT_ALLOWANCE) {
+//! match stand(3, 2, &[0, 1, 2, 0], &[1, 0], FULL_ALLOWANCE) {
 //!     Ok(Stand::Proved { minimal_polynomial, .. }) => assert_eq!(minimal_polynomial, [1, 0, 1]),
 //!     Ok(Stand::Short { witness, .. }) => panic!("unit row {witness} is not sent to zero"),
 //!     Err(refusal) => panic!("{refusal}"),
@@ -36,8 +36,8 @@
 //! rt staticlib kinarsop
 //! ```
 //!
-//! proves it and builds it in `target/staticlib`, where this crate looks for it. To link one that lies elsewhere, name its folder, by its whole
-//! path, in the environment variable `KINARSOP_LIB` when cargo is run. Without the library, and for other processors, `cargo check` works and says in
+//! leaves it in `target/staticlib`, where this crate looks for it. To link one that lies elsewhere, name its folder, by its whole path, in the
+//! environment variable `KINARSOP_LIB` when cargo is run. Without the library, and for other processors, `cargo check` works and says in
 //! a warning that nothing is linked; programs and tests then stop at the linker.
 //!
 //! # Panics
@@ -58,10 +58,22 @@ pub use chain::Chain;
 pub use refusal::Refusal;
 pub use stand::Stand;
 
-use face::{POLYNOMIAL_ROOM, ROW_ROOM, SHEET_ROOM, STAGES_ROOM};
+use face::{POLYNOMIAL_ROOM, ROW_ROOM, SHEET_ROOM, STAGE_ROOM};
 
-/// The allowance of a case file that states none. It pays for every list of candidates: 128 orders of degree 64.
-pub const DEFAULT_ALLOWANCE: u32 = 8_192;
+/// The largest p.
+pub const LARGEST_PRIME: u32 = 251;
+
+/// The largest n.
+pub const LARGEST_N: usize = 64;
+
+/// The most candidates.
+pub const MOST_CANDIDATES: usize = 128;
+
+/// An allowance that pays for every list of candidates: 128 orders of degree 64. It is that of a case file that states none.
+pub const FULL_ALLOWANCE: u32 = 8_192;
+
+/// The bytes of the longest case file. Of a longer file one byte more is enough: with all of them the sheet is refused at the same place.
+pub const LONGEST_CASE: usize = 12_682;
 
 /// The inverse of a modulo p, and 0 for 0.
 ///
@@ -124,7 +136,7 @@ pub fn image(
 /// polynomial of M or short of it.
 ///
 /// Candidates are taken from the front of the list. Each costs as many products as the degree of its order, and the first that would go over the
-/// allowance ends the list. [`DEFAULT_ALLOWANCE`] pays for every list.
+/// allowance ends the list. [`FULL_ALLOWANCE`] pays for every list.
 ///
 /// Refused: [`Prime`](Refusal::Prime), [`Size`](Refusal::Size), [`Matrix`](Refusal::Matrix), [`Rows`](Refusal::Rows), [`Entry`](Refusal::Entry).
 ///
@@ -190,7 +202,7 @@ pub fn stand(
 /// ```
 pub fn chain(p: u32, n: usize, matrix: &[u8], candidates: &[u8]) -> Result<Chain, Refusal> {
     let mut product = [0; POLYNOMIAL_ROOM];
-    let mut stages = [0; STAGES_ROOM];
+    let mut stages = [0; STAGE_ROOM];
     let answer = face::chain(p, n, matrix, candidates, &mut product, &mut stages);
     Refusal::read(answer.refusal)?;
     Ok(Chain {

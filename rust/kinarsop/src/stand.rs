@@ -7,16 +7,16 @@
 /// it does not fit.
 ///
 /// From short to proved: put the unit row that the witness names behind the candidates, and call again. From at most 64 candidates and with
-/// [`DEFAULT_ALLOWANCE`](crate::DEFAULT_ALLOWANCE) or more this ends in proved after at most n − d additions, where d is the degree of the first
+/// [`FULL_ALLOWANCE`](crate::FULL_ALLOWANCE) or more this ends in proved after at most n − d additions, where d is the degree of the first
 /// divisor.
 ///
 /// ```
-/// use kinarsop::{stand, Stand, DEFAULT_ALLOWANCE};
+/// use kinarsop::{stand, Stand, FULL_ALLOWANCE};
 ///
 /// let (n, matrix) = (2, [1, 0, 0, 2]);
 /// let mut candidates = vec![1, 0];
 /// let minimal = loop {
-///     match stand(3, n, &matrix, &candidates, DEFAULT_ALLOWANCE)? {
+///     match stand(3, n, &matrix, &candidates, FULL_ALLOWANCE)? {
 ///         Stand::Proved { minimal_polynomial, .. } => break minimal_polynomial,
 ///         Stand::Short { witness, .. } => {
 ///             candidates.extend((1..=n).map(|place| u8::from(place == witness)));

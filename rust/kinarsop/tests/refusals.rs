@@ -1,6 +1,7 @@
 //! Every number of every call, two faults at once, the bounds, empty slices, and what an error says.
 use independent::naive::is_prime;
 use kinarsop::{chain, image, inverse, order, period, sheet, stand, Refusal, Stand};
+use kinarsop::{LARGEST_N, LARGEST_PRIME, MOST_CANDIDATES};
 use std::collections::HashSet;
 
 /// 01's table, in its sequence; 6 and 8 cannot come from these calls.
@@ -220,17 +221,18 @@ fn bounds() {
     let primes: Vec<u32> = (0..300).filter(|&p| inverse(p, 0).is_ok()).collect();
     let expected: Vec<u32> = (0..300).filter(|&p| is_prime(p.into())).collect();
     assert_eq!(primes, expected);
+    assert_eq!(primes.last(), Some(&LARGEST_PRIME));
 
     for n in 0..70 {
         let found = period(2, n, &vec![0; n * n]);
-        let taken = (1..=64).contains(&n);
+        let taken = (1..=LARGEST_N).contains(&n);
         let expected = if taken { Ok(None) } else { Err(Refusal::Size) };
         assert_eq!(found, expected);
     }
     for count in 0..132 {
         let rows = vec![0; 3 * count];
         let found = stand(2, 3, &[0; 9], &rows, 0);
-        if count <= 128 {
+        if count <= MOST_CANDIDATES {
             assert_eq!(found.map(|s| s.taken()), Ok(count));
             assert!(chain(2, 3, &[0; 9], &rows).is_ok());
         } else {

@@ -1,5 +1,5 @@
 //! Every sample case gives the sheet that is stored beside it.
-use kinarsop::{sheet, Refusal};
+use kinarsop::{sheet, Refusal, LONGEST_CASE};
 use std::fs;
 
 #[test]
@@ -42,4 +42,19 @@ fn files_that_are_no_case() {
     let mut long = vec![255; 1 << 20];
     long[..file.len()].copy_from_slice(&file);
     assert_eq!(sheet(&long), Err(Refusal::File { place: file.len() }));
+}
+
+#[test]
+fn the_longest_case() {
+    let path = concat!(env!("CARGO_MANIFEST_DIR"), "/../../cases/longest.case");
+    let mut file = fs::read(path).expect("a case");
+    assert_eq!(file.len(), LONGEST_CASE);
+    assert!(sheet(&file).is_ok());
+    file.push(255);
+    let refused = Err(Refusal::File {
+        place: LONGEST_CASE,
+    });
+    assert_eq!(sheet(&file), refused);
+    file.resize(1 << 20, 255);
+    assert_eq!(sheet(&file), refused);
 }

@@ -1,5 +1,5 @@
 //! The longest of everything, slices that share bytes, and calls from several threads.
-use kinarsop::{chain, image, inverse, order, period, sheet, stand, Stand, DEFAULT_ALLOWANCE};
+use kinarsop::{chain, image, inverse, order, period, sheet, stand, Stand, FULL_ALLOWANCE};
 use std::thread;
 
 const N: usize = 64;
@@ -67,8 +67,8 @@ fn a_hundred_and_twenty_eight_candidates() {
     let candidates: Vec<u8> = (0..128).flat_map(|i| unit_row(i % N)).collect();
     for (allowance, taken, spent) in [
         (u32::MAX, 128, 8_192),
-        (DEFAULT_ALLOWANCE, 128, 8_192),
-        (DEFAULT_ALLOWANCE - 1, 127, 8_128),
+        (FULL_ALLOWANCE, 128, 8_192),
+        (FULL_ALLOWANCE - 1, 127, 8_128),
         (64, 1, 64),
     ] {
         let expected = Stand::Proved {
@@ -103,7 +103,7 @@ fn sixty_four_stages() {
     matrix[N * N - 1] = 2;
     let mut expected = vec![0; N];
     expected[N - 1] = 1;
-    let found = stand(251, N, &matrix, &unit_row(0), DEFAULT_ALLOWANCE);
+    let found = stand(251, N, &matrix, &unit_row(0), FULL_ALLOWANCE);
     let expected = Stand::Short {
         divisor: vec![250, 1],
         witness: 64,
@@ -176,7 +176,7 @@ fn several_threads() {
                 assert_eq!(sheet(&file).as_deref(), Ok(&text[..]));
                 assert_eq!(inverse(251, 2), Ok(126));
                 assert_eq!(period(251, N, &round()), Ok(Some(64)));
-                let found = stand(251, N, &round(), &candidates, DEFAULT_ALLOWANCE).unwrap();
+                let found = stand(251, N, &round(), &candidates, FULL_ALLOWANCE).unwrap();
                 assert_eq!(found.minimal_polynomial(), Some(&round_polynomial()[..]));
                 let found = chain(251, N, &identity(), &candidates).unwrap();
                 assert_eq!(found.product, power_polynomial());
