@@ -19,8 +19,8 @@
      sequence of kinarsop_refusal below. `refusal` is 0 where it is answered.
    - A refused call changes no byte lent, and every other field of its answer is 0 (false).
    - A length says how many bytes may be read or written from its pointer on. The pointer of length
-     0 may be NULL. The slices lent to one call may not overlap. This is the caller's part: no call
-     can test it.
+     0 may be NULL. A result buffer may share no byte with another slice of the same call; what is
+     only read may. This is the caller's part: no call can test it.
    - A result buffer may be longer than asked; the bytes behind what is written stay as they were.
    - Nothing is kept between calls and no heap is used. Several threads may call at once, as long
      as none of them writes to bytes that are lent to another's call.

@@ -3,10 +3,9 @@
 //! The face answers every number and every length. What it asks of a caller is about memory alone, and Rust's slices give it:
 //! - a pointer is good for as many bytes as the length beside it says, and those of a result may be written: a slice is just that;
 //! - nothing else touches the bytes during the call: inputs are lent by `&`, results by `&mut`;
-//! - slices lent to one call share no byte: `&mut` shares with nothing, but two slices lent by `&` may, and then [`apart`] copies one.
+//! - a result shares no byte with any other slice of the call: what is lent by `&mut` shares with nothing.
 //!
 //! The library keeps no pointer and nothing between two calls.
-use std::borrow::Cow;
 
 /// Room for every polynomial: 65 coefficients.
 pub(crate) const POLYNOMIAL_ROOM: usize = 65;
@@ -126,20 +125,6 @@ extern "C" {
     ) -> SheetAnswer;
 }
 
-/// The slice itself where it shares no byte with any of the others, else a copy of it.
-fn apart<'a>(slice: &'a [u8], others: &[&[u8]]) -> Cow<'a, [u8]> {
-    let own = slice.as_ptr_range();
-    let shares = |other: &&[u8]| {
-        let other = other.as_ptr_range();
-        own.start < other.end && other.start < own.end
-    };
-    if others.iter().any(shares) {
-        Cow::Owned(slice.to_vec())
-    } else {
-        Cow::Borrowed(slice)
-    }
-}
-
 pub(crate) fn inverse(p: u32, a: u32) -> InverseAnswer {
     // SAFETY: no memory is lent.
     unsafe { kinarsop_inverse(p, a) }
@@ -152,9 +137,8 @@ pub(crate) fn order(
     row: &[u8],
     polynomial: &mut [u8],
 ) -> OrderAnswer {
-    let row = apart(row, &[matrix]);
-    // SAFETY: each pointer comes with its slice's length, the slices live beyond the call, only the one lent by `&mut` is written, and no two
-    // share a byte: the row and the matrix are apart.
+    // SAFETY: each pointer comes with its slice's length, the slices live beyond the call, and only the one lent by `&mut`, which shares no byte with
+    // another, is written.
     unsafe {
         kinarsop_order(
             p,
@@ -178,10 +162,8 @@ pub(crate) fn image(
     polynomial: &[u8],
     image: &mut [u8],
 ) -> u8 {
-    let row = apart(row, &[matrix]);
-    let polynomial = apart(polynomial, &[matrix, &row]);
-    // SAFETY: each pointer comes with its slice's length, the slices live beyond the call, only the one lent by `&mut` is written, and no two
-    // share a byte: the row and the matrix are apart, and the polynomial from both.
+    // SAFETY: each pointer comes with its slice's length, the slices live beyond the call, and only the one lent by `&mut`, which shares no byte with
+    // another, is written.
     unsafe {
         kinarsop_image(
             p,
@@ -207,9 +189,8 @@ pub(crate) fn stand(
     polynomial: &mut [u8],
     image: &mut [u8],
 ) -> StandAnswer {
-    let candidates = apart(candidates, &[matrix]);
-    // SAFETY: each pointer comes with its slice's length, the slices live beyond the call, only those lent by `&mut` are written, and no two
-    // share a byte: the candidates and the matrix are apart.
+    // SAFETY: each pointer comes with its slice's length, the slices live beyond the call, and only those lent by `&mut`, which share no byte with
+    // another, are written.
     unsafe {
         kinarsop_stand(
             p,
@@ -235,9 +216,8 @@ pub(crate) fn chain(
     product: &mut [u8],
     stages: &mut [u8],
 ) -> ChainAnswer {
-    let candidates = apart(candidates, &[matrix]);
-    // SAFETY: each pointer comes with its slice's length, the slices live beyond the call, only those lent by `&mut` are written, and no two
-    // share a byte: the candidates and the matrix are apart.
+    // SAFETY: each pointer comes with its slice's length, the slices live beyond the call, and only those lent by `&mut`, which share no byte with
+    // another, are written.
     unsafe {
         kinarsop_chain(
             p,
@@ -260,27 +240,7 @@ pub(crate) fn period(p: u32, n: usize, matrix: &[u8]) -> PeriodAnswer {
 }
 
 pub(crate) fn sheet(file: &[u8], text: &mut [u8]) -> SheetAnswer {
-    // SAFETY: each pointer comes with its slice's length, the slices live beyond the call, only the one lent by `&mut` is written, and it shares
-    // no byte with the other.
+    // SAFETY: each pointer comes with its slice's length, the slices live beyond the call, and only the one lent by `&mut`, which shares no byte with
+    // another, is written.
     unsafe { kinarsop_sheet(file.as_ptr(), file.len(), text.as_mut_ptr(), text.len()) }
-}
-
-#[cfg(test)]
-mod tests {
-    use super::*;
-
-    #[test]
-    fn slices_that_share_bytes_are_copied() {
-        let bytes = [1, 2, 3, 4, 5, 6];
-        let copied = |slice, other| matches!(apart(slice, &[other]), Cow::Owned(_));
-        assert!(copied(&bytes[..3], &bytes[2..]));
-        assert!(copied(&bytes[2..], &bytes[..3]));
-        assert!(copied(&bytes[2..4], &bytes));
-        assert!(copied(&bytes, &bytes[2..4]));
-        assert!(copied(&bytes, &bytes));
-        assert!(!copied(&bytes[..3], &bytes[3..]));
-        assert!(!copied(&bytes[3..], &bytes[..3]));
-        assert!(!copied(&[], &bytes));
-        assert_eq!(*apart(&bytes[2..4], &[&[], &bytes]), [3, 4]);
-    }
 }
