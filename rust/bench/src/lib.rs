@@ -2,5 +2,6 @@
 #![forbid(unsafe_code)]
 
 pub mod families;
+pub mod pace;
 pub mod tables;
 pub mod timing;
