@@ -7,6 +7,7 @@ use independent::calls::{
     WIDEST,
 };
 use independent::case::MOST_CANDIDATES;
+use independent::naive::LARGEST_PRIME;
 use independent::numbers::Numbers;
 
 /// A test that is to apply, and in which of its ways.
@@ -46,10 +47,9 @@ fn ways(name: Name, test: u8) -> std::ops::Range<usize> {
     0..match test {
         PRIME => MODULI.len(),
         SIZE => SIZES.len(),
-        MATRIX => 4,
-        ROWS => 4,
-        POLYNOMIAL => 3,
-        ENTRIES if name == Name::Inverse => 4,
+        MATRIX | ROWS => LENGTHS,
+        POLYNOMIAL => POLYNOMIALS.len(),
+        ENTRIES if name == Name::Inverse => SCALARS,
         ENTRIES => read * PLACES * VALUES,
         _ => name.results().len() * SHORT,
     }
@@ -65,18 +65,27 @@ const MODULI: [(u32, u64); 9] = [
     (255, 255),
     (256 + 2, 2),
     (65_537 * 3, 3),
-    (u32::MAX, 251),
+    (u32::MAX, LARGEST_PRIME),
 ];
 
-/// No size, and the one by which the slices are laid out. Those past every slice are a size in their low bytes, or have a square that is.
+/// No size, and the one by which the slices are laid out. Those past every slice are like it in their low bytes, or have a square that is.
 const SIZES: [(u64, usize); 6] = [
     (0, 0),
     (WIDEST + 1, WIDEST as usize + 1),
     (WIDEST + 2, WIDEST as usize + 2),
     ((1 << 32) + 2, 2),
-    (1 << 63, 3),
+    (1 << 63, 0),
     (u64::MAX, 1),
 ];
+
+/// How many lengths are tried that a matrix, a row or a list is not to have.
+const LENGTHS: usize = 4;
+
+/// The lengths of polynomials that are none.
+const POLYNOMIALS: [usize; 3] = [0, MOST_COEFFICIENTS + 1, 255];
+
+/// How many scalars are tried that are p or more.
+const SCALARS: usize = 4;
 
 /// A bad entry is at the first, the middle or the last place of a list, and is p or 255.
 const PLACES: usize = 3;
@@ -115,7 +124,7 @@ pub fn faulty(numbers: &mut Numbers, primes: &[u64], name: Name, faults: &[Fault
             PRIME | SIZE => {}
             MATRIX => resize(&mut call.slices[0], square_sizes(draft.laid)[way])?,
             ROWS => resize(&mut call.slices[1], row_sizes(name, draft.laid)[way])?,
-            POLYNOMIAL => call.slices[2] = vec![0; [0, MOST_COEFFICIENTS + 1, 255][way]],
+            POLYNOMIAL => call.slices[2] = vec![0; POLYNOMIALS[way]],
             ENTRIES if name == Name::Inverse => call.k = scalars(call.p)[way],
             ENTRIES => spoil(&mut call, way)?,
             _ => shorten(&mut call, draft.laid, way)?,
@@ -125,7 +134,7 @@ pub fn faulty(numbers: &mut Numbers, primes: &[u64], name: Name, faults: &[Fault
 }
 
 /// Lengths that a matrix is not to have; that of the next size is the last.
-fn square_sizes(n: usize) -> [Option<usize>; 4] {
+fn square_sizes(n: usize) -> [Option<usize>; LENGTHS] {
     let square = n * n;
     let short = square.checked_sub(1);
     let empty = (0 < n).then_some(0);
@@ -133,9 +142,9 @@ fn square_sizes(n: usize) -> [Option<usize>; 4] {
 }
 
 /// Lengths that a row, or a list of candidates, is not to have.
-fn row_sizes(name: Name, n: usize) -> [Option<usize>; 4] {
+fn row_sizes(name: Name, n: usize) -> [Option<usize>; LENGTHS] {
     if matches!(name, Name::Order | Name::Image) {
-        let longer = if n == 0 { 2 } else { 2 * n };
+        let longer = 2 * n.max(1);
         return [
             n.checked_sub(1),
             Some(n + 1),
@@ -154,7 +163,7 @@ fn row_sizes(name: Name, n: usize) -> [Option<usize>; 4] {
     ]
 }
 
-fn scalars(p: u32) -> [u32; 4] {
+fn scalars(p: u32) -> [u32; SCALARS] {
     [p, p.saturating_add(1), p.saturating_add(256), u32::MAX]
 }
 
@@ -268,7 +277,7 @@ mod tests {
     #[test]
     fn at_most_so_many_faults() {
         let lengths: Vec<usize> = sets(Name::Inverse, 1).iter().map(Vec::len).collect();
-        assert_eq!(lengths.len(), 1 + MODULI.len() + 4);
+        assert_eq!(lengths.len(), 1 + MODULI.len() + SCALARS);
         assert!(lengths.iter().all(|&x| x <= 1));
     }
 }

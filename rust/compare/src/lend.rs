@@ -18,10 +18,6 @@ use std::process::{Child, ChildStdin, ChildStdout, Stdio};
 /// The longest slice that can be lent.
 pub const LONGEST: usize = 1 << 16;
 
-/// Every slice against the page in front of it, and every slice against the page behind it.
-pub const IN_FRONT: u8 = 0;
-pub const BEHIND: u8 = u8::MAX;
-
 /// A call and the sides on which its slices lie.
 #[derive(Debug, Clone, PartialEq, Eq)]
 pub struct Input {
@@ -32,13 +28,13 @@ pub struct Input {
 impl Input {
     /// The call with its slices on every choice of sides.
     pub fn on_all_sides(call: &Call) -> Vec<Input> {
-        let choices = 0..1 << call.name.slices();
+        let choices = 0..=all_behind(call);
         choices.map(|sides| Input::new(call, sides)).collect()
     }
 
-    /// The call with all slices in front, and with all behind.
+    /// The call with all slices at the pages in front of them, and with all at those behind.
     pub fn on_both_sides(call: &Call) -> [Input; 2] {
-        [IN_FRONT, BEHIND].map(|sides| Input::new(call, sides))
+        [0, all_behind(call)].map(|sides| Input::new(call, sides))
     }
 
     fn new(call: &Call, sides: u8) -> Input {
@@ -61,6 +57,10 @@ impl Input {
         }
         bytes
     }
+}
+
+fn all_behind(call: &Call) -> u8 {
+    (1 << call.name.slices()) - 1
 }
 
 fn batch(inputs: &[Input]) -> Vec<u8> {
@@ -261,7 +261,7 @@ mod tests {
     #[test]
     fn the_bytes_of_a_batch() {
         let inputs = [
-            Input::new(&call("inverse 258 | 3"), IN_FRONT),
+            Input::new(&call("inverse 258 | 3"), 0),
             Input::new(&call("order 3 | 4294967298 | 7 | | 9 9"), 0b101),
         ];
         let count = [2, 0, 0, 0];
@@ -270,6 +270,19 @@ mod tests {
         let slices = [1, 0, 0, 0, 7, 0, 0, 0, 0, 2, 0, 0, 0, 9, 9];
         let expected = [&count[..], &inverse, &order, &slices].concat();
         assert_eq!(batch(&inputs), expected);
+    }
+
+    #[test]
+    fn sides() {
+        let sides = |inputs: &[Input]| inputs.iter().map(|x| x.sides).collect::<Vec<u8>>();
+        let (none, three) = (call("inverse 5 | 3"), call("order 5 | 1 | 1 | 1 | 1"));
+        assert_eq!(sides(&Input::on_all_sides(&none)), [0]);
+        assert_eq!(sides(&Input::on_both_sides(&none)), [0, 0]);
+        assert_eq!(
+            sides(&Input::on_all_sides(&three)),
+            [0, 1, 2, 3, 4, 5, 6, 7]
+        );
+        assert_eq!(sides(&Input::on_both_sides(&three)), [0, 7]);
     }
 
     #[test]

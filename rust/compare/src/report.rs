@@ -29,7 +29,7 @@ impl Differing {
         };
         let sides: Vec<&str> = slices.map(side).collect();
         println!("differs: {}", self.input.call.line());
-        println!("pages that may not be touched: {}", sides.join(", "));
+        println!("the page beside each slice: {}", sides.join(", "));
         println!("expected: {}", self.expected);
         match &self.found {
             Ok(seen) => println!("found: {seen}"),

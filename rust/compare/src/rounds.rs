@@ -5,7 +5,8 @@ use crate::draft::Draft;
 use crate::lend::Input;
 use crate::mutate::{mend, mutate, some_file, some_size};
 use independent::calls::{refusal, Call, Name, SHEET_ROOM};
-use independent::naive::{LARGEST_PRIME, PERIOD_LIMIT};
+use independent::grammar;
+use independent::naive::{Row, LARGEST_PRIME, PERIOD_LIMIT};
 use independent::numbers::Numbers;
 
 /// How many inputs a round has.
@@ -122,23 +123,18 @@ fn cost(call: &Call) -> u64 {
         Name::Inverse | Name::Image => 0,
         Name::Order => orders(n, 1),
         Name::Stand | Name::Chain => orders(n, 2 + rows(1)),
-        Name::Period => walks(call.p, n),
+        Name::Period => walks(call.p.into(), n),
         Name::Sheet => sheet_cost(&call.slices[0]),
     }
 }
 
-/// A file that is no case costs little; what stands behind its first numbers is taken for rows.
+/// A file that is no case costs little.
 fn sheet_cost(file: &[u8]) -> u64 {
-    let [_, _, p, n, rest @ ..] = file else {
-        return 0;
-    };
-    let (p, n) = (u32::from(*p), u64::from(*n));
-    let rows = rest.len() as u64 / (n + 2);
-    if n <= rows {
-        orders(n, 4 + rows - n) + walks(p, n)
-    } else {
-        0
-    }
+    let file: Row = file.iter().map(|&x| x.into()).collect();
+    grammar::values(&file).map_or(0, |case| {
+        let rows = case.candidates.len() as u64 / case.n;
+        orders(case.n, 4 + rows) + walks(case.p, case.n)
+    })
 }
 
 /// The orders of so many rows.
@@ -147,8 +143,8 @@ fn orders(n: u64, rows: u64) -> u64 {
 }
 
 /// The powers that a row goes through until it comes back.
-fn walks(p: u32, n: u64) -> u64 {
-    let states = u64::from(p).saturating_pow(n as u32);
+fn walks(p: u64, n: u64) -> u64 {
+    let states = p.saturating_pow(n as u32);
     states.min(PERIOD_LIMIT) * n * n
 }
 
@@ -157,7 +153,7 @@ mod tests {
     use super::*;
     use crate::lend::Seen;
     use crate::tally::Tally;
-    use independent::calls::TABLE;
+    use independent::calls::{TABLE, WIDEST};
     use independent::lines::Line;
 
     #[test]
@@ -202,10 +198,19 @@ mod tests {
     #[test]
     fn the_pool_is_sound() {
         let mut numbers = Numbers(1);
-        for _ in 0..20 {
-            for call in pool(&mut numbers) {
-                assert_eq!(refusal(&call), None, "{}", call.line());
-            }
+        let pools = (0..20).flat_map(|_| pool(&mut numbers));
+        for call in pools {
+            assert_eq!(refusal(&call), None, "{}", call.line());
         }
+    }
+
+    /// Files of a case's full length are damaged too, and machines of 64 rows are answered.
+    #[test]
+    fn what_is_large_is_not_left_out() {
+        let inputs: Vec<Input> = (0..30).flat_map(|round| inputs(4, round)).collect();
+        let long = |call: &Call| call.name == Name::Sheet && 10_000 < call.slices[0].len();
+        assert!(inputs.iter().any(|x| long(&x.call)));
+        let wide = |call: &Call| call.n == WIDEST && refusal(call).is_none();
+        assert!(inputs.iter().any(|x| wide(&x.call)));
     }
 }

@@ -9,8 +9,9 @@
 //! - `--cases`: the sheet of each file of the folder that ends in `.case`, with a buffer that has just enough bytes, one too few, and more
 //! - `--faults`: every call with up to three faults (`faults.rs`), so many times each, all slices in front and all behind
 //!
-//! A table of what was tried is printed, and the status is 0. At the first difference it is shown, its call is written to the file of `--kept` as a
-//! line that `--lines` takes, and the status is 1. It is 2 for wrong use, or where a file cannot be read or the program not be started.
+//! How many inputs there were so far is said on standard error. A table of what was tried is printed, and the status is 0. The first difference is
+//! shown, its call is written to the file of `--kept` as a line that `--lines` takes, and the status is 1. It is 2 for wrong use, or where a file
+//! cannot be read or the program not be started.
 use compare::faults::{faulty, sets};
 use compare::lend::{Input, Lender, Seen};
 use compare::made::primes;
@@ -84,6 +85,10 @@ impl Run<'_> {
     }
 
     fn send(&mut self) {
+        if self.inputs.is_empty() {
+            return;
+        }
+        eprintln!("outside: {} inputs", self.tally.inputs());
         let (inputs, expected) = (
             std::mem::take(&mut self.inputs),
             std::mem::take(&mut self.expected),
