@@ -2,6 +2,7 @@
 //! have each fault, and a set is made in all of them. A few ways bring a later fault with them: p = 0 leaves no entry that is below p, and a size
 //! past every slice leaves no slice of the right length.
 use crate::draft::Draft;
+use crate::made::primes;
 use independent::calls::{
     Call, Name, BUFFERS, ENTRIES, MATRIX, MOST_COEFFICIENTS, POLYNOMIAL, PRIME, ROWS, SIZE, TABLE,
     WIDEST,
@@ -9,12 +10,35 @@ use independent::calls::{
 use independent::case::MOST_CANDIDATES;
 use independent::naive::LARGEST_PRIME;
 use independent::numbers::Numbers;
+use std::iter::repeat_n;
+
+/// How many faults a call has at most.
+const MOST_FAULTS: usize = 3;
+
+/// There is one set of no fault; its calls are made so many times as often as others.
+const SOUND: usize = 100;
 
 /// A test that is to apply, and in which of its ways.
 #[derive(Debug, Clone, Copy, PartialEq, Eq)]
-pub struct Fault {
-    pub test: u8,
+struct Fault {
+    test: u8,
     way: usize,
+}
+
+/// Every call with every set of faults, so many times each, on machines that the seed draws.
+pub fn calls(times: usize, seed: u64) -> impl Iterator<Item = Call> {
+    let (mut numbers, primes) = (Numbers(seed), primes());
+    let of = |name: Name| {
+        sets(name, MOST_FAULTS)
+            .into_iter()
+            .map(move |set| (name, set))
+    };
+    let again = move |(name, set): (Name, Vec<Fault>)| {
+        let often = if set.is_empty() { SOUND } else { 1 };
+        repeat_n((name, set), often * times)
+    };
+    let sets = Name::ALL.into_iter().flat_map(of).flat_map(again);
+    sets.filter_map(move |(name, set)| faulty(&mut numbers, &primes, name, &set))
 }
 
 /// Which call runs which tests (`docs/CALLS.md`).
@@ -29,7 +53,7 @@ fn tests(name: Name) -> &'static [u8] {
 }
 
 /// Every choice of at most so many of the tests, in every combination of their ways.
-pub fn sets(name: Name, most: usize) -> Vec<Vec<Fault>> {
+fn sets(name: Name, most: usize) -> Vec<Vec<Fault>> {
     let mut sets = vec![vec![]];
     for &test in tests(name) {
         let longer: Vec<Vec<Fault>> = sets
@@ -116,7 +140,7 @@ fn draft(numbers: &mut Numbers, primes: &[u64], faults: &[Fault]) -> Draft {
 
 /// A call with these faults, or nothing where it cannot have them all. They are made in the table's order, so that a list has its length before
 /// one of its entries is bad.
-pub fn faulty(numbers: &mut Numbers, primes: &[u64], name: Name, faults: &[Fault]) -> Option<Call> {
+fn faulty(numbers: &mut Numbers, primes: &[u64], name: Name, faults: &[Fault]) -> Option<Call> {
     let draft = draft(numbers, primes, faults);
     let mut call = draft.call(numbers, name);
     for &Fault { test, way } in faults {
@@ -194,11 +218,8 @@ fn shorten(call: &mut Call, n: usize, way: usize) -> Option<()> {
 #[cfg(test)]
 mod tests {
     use super::*;
-    use crate::made::primes;
     use independent::calls::refusal;
     use independent::naive::is_prime;
-
-    const MOST: usize = 3;
 
     /// The tests that apply, each looked at by itself.
     fn applying(call: &Call) -> Vec<u8> {
@@ -239,7 +260,7 @@ mod tests {
         let (mut numbers, primes) = (Numbers(1), primes());
         for name in Name::ALL {
             let mut made = 0;
-            for set in sets(name, MOST) {
+            for set in sets(name, MOST_FAULTS) {
                 let Some(call) = faulty(&mut numbers, &primes, name, &set) else {
                     continue;
                 };
@@ -251,7 +272,7 @@ mod tests {
                 assert!(named.iter().all(|test| applying(&call).contains(test)));
                 assert_eq!(refusal(&call), named.first().copied(), "{}", call.line());
             }
-            assert!(2 * made > sets(name, MOST).len(), "{name:?}: {made}");
+            assert!(2 * made > sets(name, MOST_FAULTS).len(), "{name:?}: {made}");
         }
     }
 
@@ -261,7 +282,7 @@ mod tests {
         let (mut numbers, primes) = (Numbers(2), primes());
         for name in Name::ALL {
             let mut made: Vec<Vec<u8>> = vec![];
-            for set in sets(name, MOST) {
+            for set in sets(name, MOST_FAULTS) {
                 if faulty(&mut numbers, &primes, name, &set).is_some() {
                     made.push(set.iter().map(|fault| fault.test).collect());
                 }
@@ -270,8 +291,16 @@ mod tests {
             made.dedup();
             let count = tests(name).len();
             let choose = |k: usize| (0..k).fold(1, |c, i| c * (count - i.min(count)) / (i + 1));
-            assert_eq!(made.len(), (0..=MOST).map(choose).sum(), "{name:?}");
+            assert_eq!(made.len(), (0..=MOST_FAULTS).map(choose).sum(), "{name:?}");
         }
+    }
+
+    #[test]
+    fn the_calls_of_a_seed() {
+        let twice = [calls(1, 3), calls(1, 3)].map(Iterator::collect::<Vec<Call>>);
+        assert_eq!(twice[0], twice[1]);
+        let sound = twice[0].iter().filter(|call| refusal(call).is_none());
+        assert_eq!(sound.count(), SOUND * Name::ALL.len());
     }
 
     #[test]

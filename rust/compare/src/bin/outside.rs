@@ -12,20 +12,17 @@
 //! How many inputs there were so far is said on standard error. A table of what was tried is printed, and the status is 0. The first difference is
 //! shown, its call is written to the file of `--kept` as a line that `--lines` takes, and the status is 1. It is 2 for wrong use, or where a file
 //! cannot be read or the program not be started.
-use compare::faults::{faulty, sets};
+use compare::faults;
 use compare::lend::{Input, Lender, Seen};
-use compare::made::primes;
 use compare::program::Program;
 use compare::report::Differing;
 use compare::tally::Tally;
 use independent::calls::{Call, Name, SHEET_ROOM};
 use independent::lines::{is_comment, Line};
-use independent::numbers::Numbers;
 use std::fs::DirEntry;
 use std::path::PathBuf;
 use std::process::exit;
 
-const MOST_FAULTS: usize = 3;
 /// How many inputs are sent at once, at least.
 const BATCH: usize = 1_000;
 /// What a buffer for a sheet holds before the call, and how many bytes more than enough the longest has.
@@ -37,7 +34,7 @@ const SPARE: usize = 77;
 struct Options {
     lines: Option<String>,
     cases: Option<String>,
-    faults: Option<(u64, u64)>,
+    faults: Option<(usize, u64)>,
     kept: Option<String>,
 }
 
@@ -134,16 +131,9 @@ impl Run<'_> {
         }
     }
 
-    fn faults(&mut self, times: u64, seed: u64) {
-        let (mut numbers, primes) = (Numbers(seed), primes());
-        for name in Name::ALL {
-            for set in sets(name, MOST_FAULTS) {
-                for _ in 0..times {
-                    if let Some(call) = faulty(&mut numbers, &primes, name, &set) {
-                        self.hold(Input::on_both_sides(&call), &call);
-                    }
-                }
-            }
+    fn faults(&mut self, times: usize, seed: u64) {
+        for call in faults::calls(times, seed) {
+            self.hold(Input::on_both_sides(&call), &call);
         }
     }
 }
