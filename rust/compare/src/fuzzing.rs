@@ -6,7 +6,7 @@ use crate::rounds::{inputs, ROUND};
 use crate::tally::Tally;
 use std::sync::atomic::{AtomicBool, AtomicU64, Ordering};
 use std::sync::mpsc::{channel, Sender};
-use std::time::{Duration, Instant};
+use std::time::Instant;
 
 /// How many inputs, and how many seconds at most.
 pub struct Plan {
@@ -51,14 +51,15 @@ struct Done {
 /// Where the workers take their rounds from.
 struct Source<'a> {
     plan: &'a Plan,
-    end: Instant,
+    start: Instant,
     next: AtomicU64,
     stopped: AtomicBool,
 }
 
 impl Source<'_> {
     fn take(&self) -> Option<u64> {
-        if self.stopped.load(Ordering::SeqCst) || self.end <= Instant::now() {
+        let over = self.plan.seconds <= self.start.elapsed().as_secs();
+        if over || self.stopped.load(Ordering::SeqCst) {
             return None;
         }
         let round = self.next.fetch_add(1, Ordering::SeqCst);
@@ -99,7 +100,7 @@ impl Source<'_> {
 pub fn hold(plan: &Plan, lenders: &mut [Lender], tell: impl FnMut(&Tally)) -> Held {
     let source = Source {
         plan,
-        end: Instant::now() + Duration::from_secs(plan.seconds),
+        start: Instant::now(),
         next: AtomicU64::new(0),
         stopped: AtomicBool::new(false),
     };
