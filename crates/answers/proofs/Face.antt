@@ -9,11 +9,11 @@
 use mathlib.Core.Path.{_≡_, refl, sym, ap, _∙_}
 use mathlib.Core.Bool.{Bool, true, false, cond}
 use mathlib.Core.List.{List, [], _∷_}
-use mathlib.Core.Option.{Option, none, some, Option·none-ne-some, Option·some-injective}
+use mathlib.Core.Option.{Option·none-ne-some, Option·some-injective}
 use Prim.Native.Nat.{ℕ, zero, suc}
 use native.Mathlib.Omega.{arith}
 use Rattle.meaning.specs.Stand.{Outcome}
-use Rattle.meaning.specs.Calls.{Answer, InverseCall, OrderCall, ImageCall, StandCall, ChainCall, PeriodCall}
+use Rattle.meaning.specs.Calls.{InverseCall, OrderCall, ImageCall, StandCall, ChainCall, PeriodCall}
 use Rattle.meaning.specs.Sheet.{SheetCall}
 use Rattle.meaning.proofs.Called.{refused-given}
 use Rattle.promises.proofs.Calls.{inverse-unique, order-unique, image-unique, stand-unique, chain-unique, period-unique}

@@ -1,5 +1,5 @@
 -- `kinarsop_image` meets its contract: the number is read as what `calls::image` answered, and the buffer is as that left it. Assumes nothing.
-use mathlib.Core.Path.{refl, subst}
+use mathlib.Core.Path.{subst}
 use mathlib.Core.List.{List}
 use Prim.Native.Nat.{ℕ}
 use native.Mathlib.Omega.{arith}
