@@ -2,11 +2,12 @@
 --   read-only          two answers that are read alike have the same refusal, and the same result where there is none
 --   alone-path         a number that is 0 beside a refusal is known by the result
 --   period-only, standing-only, marked-false   a period, a standing and a mark are known by how they are read
---   inverse-fields, order-fields, stand-fields, chain-fields, period-fields, sheet-fields   a struct is known by how it is read
+--   field-path         so a struct of a refusal and one number more is known by how it is read
+--   stand-fields       and so is the stand's
 --   face-inverse-once, face-order-once, face-image-once, face-stand-once, face-chain-once, face-period-once, face-sheet-once
 --                      any two permitted answers and buffer contents are the same
 -- Assumes nothing.
-use mathlib.Core.Path.{_≡_, refl, sym, ap, _∙_}
+use mathlib.Core.Path.{_≡_, refl, sym, ap, ap₂, _∙_}
 use mathlib.Core.Bool.{Bool, true, false, cond}
 use mathlib.Core.List.{List, [], _∷_}
 use mathlib.Core.Option.{Option·none-ne-some, Option·some-injective}
@@ -37,41 +38,14 @@ alone-path : (k j x y : ℕ) → k ≡ j → (k ≡ 0 → x ≡ y) → Alone k (
 alone-path zero j x y e h A B = h refl
 alone-path (suc k) j x y e h A B = A (λ z. omega (arith, z)) .0 ∙ sym (B (λ z. omega (arith, e, z)) .0)
 
-inverse-fields : (r s : InverseAnswer) → inverseRead r ≡ inverseRead s → Alone (r .refusal) (r .inverse ∷ []) → Alone (s .refusal) (s .inverse ∷ []) → r ≡ s
-inverse-fields r s e A B =
-    let (k, h) = read-only _ _ _ _ e in
-    let x = alone-path _ _ _ _ k h A B in
-    λ i. record { refusal = k i; inverse = x i }
-
-order-fields : (r s : OrderAnswer) → orderRead r ≡ orderRead s → Alone (r .refusal) (r .degree ∷ []) → Alone (s .refusal) (s .degree ∷ []) → r ≡ s
-order-fields r s e A B =
-    let (k, h) = read-only _ _ _ _ e in
-    let x = alone-path _ _ _ _ k h A B in
-    λ i. record { refusal = k i; degree = x i }
-
-chain-fields : (r s : ChainAnswer) → chainRead r ≡ chainRead s → Alone (r .refusal) (r .stages ∷ []) → Alone (s .refusal) (s .stages ∷ []) → r ≡ s
-chain-fields r s e A B =
-    let (k, h) = read-only _ _ _ _ e in
-    let x = alone-path _ _ _ _ k h A B in
-    λ i. record { refusal = k i; stages = x i }
-
-sheet-fields : (r s : SheetAnswer) → sheetRead r ≡ sheetRead s → Alone (r .refusal) (r .length ∷ []) → Alone (s .refusal) (s .length ∷ []) → r ≡ s
-sheet-fields r s e A B =
-    let (k, h) = read-only _ _ _ _ e in
-    let x = alone-path _ _ _ _ k h A B in
-    λ i. record { refusal = k i; length = x i }
+field-path : {S : Type 0} (make : ℕ → ℕ → S) (k j x y : ℕ) → (k ≡ j) × (k ≡ 0 → x ≡ y) → Alone k (x ∷ []) → Alone j (y ∷ []) → make k x ≡ make j y
+field-path make k j x y (e, h) A B = ap₂ make e (alone-path k j x y e h A B)
 
 period-only : (t u : ℕ) → periodIn t ≡ periodIn u → t ≡ u
 period-only zero zero e = refl
 period-only zero (suc u) e = absurd (Option·none-ne-some (suc u) e)
 period-only (suc t) zero e = absurd (Option·none-ne-some (suc t) (sym e))
 period-only (suc t) (suc u) e = Option·some-injective _ _ e
-
-period-fields : (r s : PeriodAnswer) → periodRead r ≡ periodRead s → Alone (r .refusal) (r .period ∷ []) → Alone (s .refusal) (s .period ∷ []) → r ≡ s
-period-fields r s e A B =
-    let (k, h) = read-only _ _ _ _ e in
-    let x = alone-path _ _ _ _ k (λ z. period-only _ _ (h z)) A B in
-    λ i. record { refusal = k i; period = x i }
 
 standing-only : (b d : Bool) → standingIn b ≡ standingIn d → b ≡ d
 standing-only true true e = refl
@@ -113,11 +87,11 @@ stand-fields r s e A B = go (r .refusal) refl
 -- the calls
 pub face-inverse-once : (r s : InverseAnswer) {p a : ℕ} → InverseCall p a (inverseRead r) → Alone (r .refusal) (r .inverse ∷ [])
     → InverseCall p a (inverseRead s) → Alone (s .refusal) (s .inverse ∷ []) → r ≡ s
-face-inverse-once r s C A D B = inverse-fields r s (inverse-unique C D) A B
+face-inverse-once r s C A D B = field-path (λ k x. record { refusal = k; inverse = x }) _ _ _ _ (read-only _ _ _ _ (inverse-unique C D)) A B
 
 pub face-order-once : (r s : OrderAnswer) {p n : ℕ} {m v old x y : List ℕ} → OrderCall p n m v old (orderRead r) x → Alone (r .refusal) (r .degree ∷ [])
     → OrderCall p n m v old (orderRead s) y → Alone (s .refusal) (s .degree ∷ []) → (r ≡ s) × (x ≡ y)
-face-order-once r s C A D B = let (e, f) = order-unique C D in (order-fields r s e A B, f)
+face-order-once r s C A D B = let (e, f) = order-unique C D in (field-path (λ k x. record { refusal = k; degree = x }) _ _ _ _ (read-only _ _ _ _ e) A B, f)
 
 pub face-image-once : (k j p n : ℕ) (m v f : List ℕ) {old x y : List ℕ} → ImageCall p n m v f old (imageRead k) x
     → ImageCall p n m v f old (imageRead j) y → (k ≡ j) × (x ≡ y)
@@ -129,12 +103,14 @@ face-stand-once r s C A D B = let (e, f) = stand-unique C D in (stand-fields r s
 
 pub face-chain-once : (r s : ChainAnswer) {p n : ℕ} {m cs : List ℕ} {old x y : List ℕ × List ℕ} → ChainCall p n m cs old (chainRead r) x
     → Alone (r .refusal) (r .stages ∷ []) → ChainCall p n m cs old (chainRead s) y → Alone (s .refusal) (s .stages ∷ []) → (r ≡ s) × (x ≡ y)
-face-chain-once r s C A D B = let (e, f) = chain-unique C D in (chain-fields r s e A B, f)
+face-chain-once r s C A D B = let (e, f) = chain-unique C D in (field-path (λ k x. record { refusal = k; stages = x }) _ _ _ _ (read-only _ _ _ _ e) A B, f)
 
 pub face-period-once : (r s : PeriodAnswer) (p n : ℕ) (m : List ℕ) → PeriodCall p n m (periodRead r) → Alone (r .refusal) (r .period ∷ [])
     → PeriodCall p n m (periodRead s) → Alone (s .refusal) (s .period ∷ []) → r ≡ s
-face-period-once r s p n m C A D B = period-fields r s (period-unique p n m C D) A B
+face-period-once r s p n m C A D B =
+    let (k, h) = read-only _ _ _ _ (period-unique p n m C D) in
+    field-path (λ k x. record { refusal = k; period = x }) _ _ _ _ (k, λ z. period-only _ _ (h z)) A B
 
 pub face-sheet-once : (r s : SheetAnswer) {file old x y : List ℕ} → SheetCall file old (sheetRead r) x → Alone (r .refusal) (r .length ∷ [])
     → SheetCall file old (sheetRead s) y → Alone (s .refusal) (s .length ∷ []) → (r ≡ s) × (x ≡ y)
-face-sheet-once r s C A D B = let (e, f) = sheet-call-unique C D in (sheet-fields r s e A B, f)
+face-sheet-once r s C A D B = let (e, f) = sheet-call-unique C D in (field-path (λ k x. record { refusal = k; length = x }) _ _ _ _ (read-only _ _ _ _ e) A B, f)

@@ -61,6 +61,7 @@ pub struct SheetAnswer {
     pub length: usize,
 }
 
+// `calls::inverse`.
 #[no_mangle]
 pub extern "C" fn kinarsop_inverse(p: u32, a: u32) -> InverseAnswer
     ensures { λ r. ⌜ InverseCall p a (inverseRead r) ⌝ }
@@ -78,6 +79,7 @@ pub extern "C" fn kinarsop_inverse(p: u32, a: u32) -> InverseAnswer
     }
 }
 
+// `calls::order`: the degree, and the coefficients at the front of `out`.
 #[no_mangle]
 pub extern "C" fn kinarsop_order(
     p: u32,
@@ -101,7 +103,7 @@ pub extern "C" fn kinarsop_order(
     }
 }
 
-// What is returned is the refusal, 0 where the image is written.
+// `calls::image`: what is returned is the refusal alone, 0 where the image is written to `out`.
 #[no_mangle]
 pub extern "C" fn kinarsop_image(
     p: u32,
@@ -134,6 +136,7 @@ fn counted(proved: bool, counts: Counts, witness: usize) -> StandAnswer
     }
 }
 
+// `calls::stand`: what it counts, the polynomial in `poly` and the image of the witness in `image`.
 #[no_mangle]
 pub extern "C" fn kinarsop_stand(
     p: u32,
@@ -161,6 +164,7 @@ pub extern "C" fn kinarsop_stand(
     }
 }
 
+// `calls::chain`: the number of stages, their product in `product` and their record in `stages`.
 #[no_mangle]
 pub extern "C" fn kinarsop_chain(
     p: u32,
@@ -185,6 +189,7 @@ pub extern "C" fn kinarsop_chain(
     }
 }
 
+// `calls::period`.
 #[no_mangle]
 pub extern "C" fn kinarsop_period(p: u32, n: usize, m: &[u8]) -> PeriodAnswer
     ensures { λ r. ⌜ PeriodCall p n (now (m .entry)) (periodRead r) ⌝ }
@@ -206,6 +211,7 @@ pub extern "C" fn kinarsop_period(p: u32, n: usize, m: &[u8]) -> PeriodAnswer
     }
 }
 
+// `sheet::sheet`: how many bytes of `out` are the text.
 #[no_mangle]
 pub extern "C" fn kinarsop_sheet(file: &[u8], out: &mut [u8]) -> SheetAnswer
     ensures { λ r. ⌜ SheetCall (now (file .entry)) (now (out .entry)) (sheetRead r) (now (out .exit)) ⌝ }

@@ -9,7 +9,7 @@ use Rattle.meaning.specs.Refusal.{chainRefusal}
 use Rattle.refusals.proofs.Laws.{never-zero}
 use Rattle.calls.specs.Answers.{chainedOf}
 use Rattle.calls.specs.declared.Chained.{Chained}
-use Rattle.kinarsop.proofs.Read.{refused-read}
+use Rattle.kinarsop.proofs.AsGiven.{refused-read}
 use Rattle.kinarsop.proofs.kinarsop_chain.Statement.{statement}
 use Rattle.kinarsop.proofs.kinarsop_chain.Tie as tie
 

@@ -9,7 +9,7 @@ use Rattle.meaning.specs.Refusal.{imageRefusal}
 use Rattle.refusals.proofs.Laws.{never-zero}
 use Rattle.calls.specs.Answers.{imagedOf}
 use Rattle.calls.specs.declared.Imaged.{Imaged}
-use Rattle.kinarsop.proofs.Read.{refused-read}
+use Rattle.kinarsop.proofs.AsGiven.{refused-read}
 use Rattle.kinarsop.proofs.kinarsop_image.Statement.{statement}
 use Rattle.kinarsop.proofs.kinarsop_image.Tie as tie
 

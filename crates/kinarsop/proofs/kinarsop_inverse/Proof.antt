@@ -7,7 +7,7 @@ use Rattle.meaning.specs.Refusal.{inverseRefusal}
 use Rattle.refusals.proofs.Laws.{never-zero}
 use Rattle.calls.specs.Answers.{invertedOf}
 use Rattle.calls.specs.declared.Inverted.{Inverted}
-use Rattle.kinarsop.proofs.Read.{refused-read}
+use Rattle.kinarsop.proofs.AsGiven.{refused-read}
 use Rattle.kinarsop.proofs.kinarsop_inverse.Statement.{statement}
 use Rattle.kinarsop.proofs.kinarsop_inverse.Tie as tie
 

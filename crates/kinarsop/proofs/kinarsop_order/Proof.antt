@@ -9,7 +9,7 @@ use Rattle.meaning.specs.Refusal.{orderRefusal}
 use Rattle.refusals.proofs.Laws.{never-zero}
 use Rattle.calls.specs.Answers.{orderedOf}
 use Rattle.calls.specs.declared.Ordered.{Ordered}
-use Rattle.kinarsop.proofs.Read.{refused-read}
+use Rattle.kinarsop.proofs.AsGiven.{refused-read}
 use Rattle.kinarsop.proofs.kinarsop_order.Statement.{statement}
 use Rattle.kinarsop.proofs.kinarsop_order.Tie as tie
 

@@ -7,7 +7,7 @@ use Rattle.meaning.specs.Refusal.{periodRefusal}
 use Rattle.refusals.proofs.Laws.{never-zero}
 use Rattle.calls.specs.Answers.{periodedOf}
 use Rattle.calls.specs.declared.Perioded.{Perioded}
-use Rattle.kinarsop.proofs.Read.{refused-read, least-read}
+use Rattle.kinarsop.proofs.AsGiven.{refused-read, least-read}
 use Rattle.kinarsop.proofs.kinarsop_period.Statement.{statement}
 use Rattle.kinarsop.proofs.kinarsop_period.Tie as tie
 

@@ -8,7 +8,7 @@ use Rattle.meaning.specs.Sheet.{SheetCall}
 use Rattle.refusals.proofs.Laws.{never-zero}
 use Rattle.sheet.specs.Answers.{sheetedOf}
 use Rattle.sheet.specs.declared.Sheeted.{Sheeted}
-use Rattle.kinarsop.proofs.Read.{refused-read}
+use Rattle.kinarsop.proofs.AsGiven.{refused-read}
 use Rattle.kinarsop.proofs.kinarsop_sheet.Statement.{statement}
 use Rattle.kinarsop.proofs.kinarsop_sheet.Tie as tie
 

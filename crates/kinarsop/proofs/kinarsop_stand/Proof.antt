@@ -10,7 +10,7 @@ use Rattle.meaning.specs.Refusal.{standRefusal}
 use Rattle.refusals.proofs.Laws.{never-zero}
 use Rattle.calls.specs.Answers.{stoodOf}
 use Rattle.calls.specs.declared.Stood.{Stood}
-use Rattle.kinarsop.proofs.Read.{refused-read}
+use Rattle.kinarsop.proofs.AsGiven.{refused-read}
 use Rattle.kinarsop.proofs.kinarsop_stand.Statement.{statement}
 use Rattle.kinarsop.proofs.kinarsop_stand.Tie as tie
 
