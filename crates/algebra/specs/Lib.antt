@@ -1,4 +1,5 @@
 pub mod Field
+pub mod InverseOrZero
 pub mod Row
 pub mod Poly
 pub mod Echelon

@@ -1,7 +1,8 @@
 -- One result for every input, of what the face returns: read alike, and nothing beside a refusal, two answers are the same in every field.
 --   read-only          two answers that are read alike have the same refusal, and the same result where there is none
 --   alone-path         a number that is 0 beside a refusal is known by the result
---   period-only, standing-only, marked-false   a period, a standing and a mark are known by how they are read
+--   inverseIn-only, inverseIn-some   an inverse is known by how it is read
+--   period-only, standing-only, marked-false   and so are a period, a standing and a mark
 --   field-path         so a struct of a refusal and one number more is known by how it is read
 --   stand-fields       and so is the stand's
 --   face-inverse-once, face-order-once, face-image-once, face-stand-once, face-chain-once, face-period-once, face-sheet-once
@@ -10,15 +11,18 @@
 use mathlib.Core.Path.{_≡_, refl, sym, ap, ap₂, _∙_}
 use mathlib.Core.Bool.{Bool, true, false, cond}
 use mathlib.Core.List.{List, [], _∷_}
-use mathlib.Core.Option.{Option·none-ne-some, Option·some-injective}
+use mathlib.Core.Option.{some, Option·none-ne-some, Option·some-injective}
 use Prim.Native.Nat.{ℕ, zero, suc}
 use native.Mathlib.Omega.{arith}
+use lib.Dec.{eqb}
+use borrow.Author.Tests.{eqb-true}
 use Rattle.meaning.specs.Stand.{Outcome}
 use Rattle.meaning.specs.Calls.{InverseCall, OrderCall, ImageCall, StandCall, ChainCall, PeriodCall}
 use Rattle.meaning.specs.Sheet.{SheetCall}
 use Rattle.meaning.proofs.Called.{refused-given}
 use Rattle.promises.proofs.Calls.{inverse-unique, order-unique, image-unique, stand-unique, chain-unique, period-unique}
-use Rattle.kinarsop.specs.Face.{readAs, Alone, standingIn, periodIn, inverseRead, orderRead, imageRead, standNumbers, standRead, chainRead, periodRead, sheetRead}
+use Rattle.kinarsop.specs.Face.{readAs, Alone, standingIn, noInverse, inverseIn, periodIn}
+use Rattle.kinarsop.specs.Face.{inverseRead, orderRead, imageRead, standNumbers, standRead, chainRead, periodRead, sheetRead}
 use Rattle.kinarsop.specs.declared.InverseAnswer.{InverseAnswer}
 use Rattle.kinarsop.specs.declared.OrderAnswer.{OrderAnswer}
 use Rattle.kinarsop.specs.declared.StandAnswer.{StandAnswer}
@@ -28,7 +32,7 @@ use Rattle.kinarsop.specs.declared.SheetAnswer.{SheetAnswer}
 use Rattle.answers.proofs.Unique.{refused-only, given-only, proved-short}
 use Rattle.answers.proofs.Sheet.{sheet-call-unique}
 
-read-only : {A : Type 0} (k j : ℕ) (x y : A) → readAs k x ≡ readAs j y → (k ≡ j) × (k ≡ 0 → x ≡ y)
+pub read-only : {A : Type 0} (k j : ℕ) (x y : A) → readAs k x ≡ readAs j y → (k ≡ j) × (k ≡ 0 → x ≡ y)
 read-only zero zero x y e = (refl, λ _. given-only x y e)
 read-only zero (suc j) x y e = absurd (refused-given (suc j) x (sym e))
 read-only (suc k) zero x y e = absurd (refused-given (suc k) y e)
@@ -40,6 +44,22 @@ alone-path (suc k) j x y e h A B = A (λ z. omega (arith, z)) .0 ∙ sym (B (λ 
 
 field-path : {S : Type 0} (make : ℕ → ℕ → S) (k j x y : ℕ) → (k ≡ j) × (k ≡ 0 → x ≡ y) → Alone k (x ∷ []) → Alone j (y ∷ []) → make k x ≡ make j y
 field-path make k j x y (e, h) A B = ap₂ make e (alone-path k j x y e h A B)
+
+pub inverseIn-only : (x y : ℕ) → inverseIn x ≡ inverseIn y → x ≡ y
+inverseIn-only x y e = go (eqb x noInverse) (eqb y noInverse) refl refl
+  where
+    go : (s t : Bool) → eqb x noInverse ≡ s → eqb y noInverse ≡ t → x ≡ y
+    go true true a b = eqb-true x noInverse a ∙ sym (eqb-true y noInverse b)
+    go true false a b = absurd (Option·none-ne-some y (rw (a, b) at e))
+    go false true a b = absurd (Option·none-ne-some x (sym (rw (a, b) at e)))
+    go false false a b = Option·some-injective x y (rw (a, b) at e)
+
+pub inverseIn-some : (x b : ℕ) → inverseIn x ≡ some b → x ≡ b
+inverseIn-some x b e = go (eqb x noInverse) refl
+  where
+    go : (s : Bool) → eqb x noInverse ≡ s → x ≡ b
+    go true a = absurd (Option·none-ne-some b (rw a at e))
+    go false a = Option·some-injective x b (rw a at e)
 
 period-only : (t u : ℕ) → periodIn t ≡ periodIn u → t ≡ u
 period-only zero zero e = refl
@@ -87,7 +107,9 @@ stand-fields r s e A B = go (r .refusal) refl
 -- the calls
 pub face-inverse-once : (r s : InverseAnswer) {p a : ℕ} → InverseCall p a (inverseRead r) → Alone (r .refusal) (r .inverse ∷ [])
     → InverseCall p a (inverseRead s) → Alone (s .refusal) (s .inverse ∷ []) → r ≡ s
-face-inverse-once r s C A D B = field-path (λ k x. record { refusal = k; inverse = x }) _ _ _ _ (read-only _ _ _ _ (inverse-unique C D)) A B
+face-inverse-once r s C A D B =
+    let (k, h) = read-only _ _ _ _ (inverse-unique C D) in
+    field-path (λ k x. record { refusal = k; inverse = x }) _ _ _ _ (k, λ z. inverseIn-only _ _ (h z)) A B
 
 pub face-order-once : (r s : OrderAnswer) {p n : ℕ} {m v old x y : List ℕ} → OrderCall p n m v old (orderRead r) x → Alone (r .refusal) (r .degree ∷ [])
     → OrderCall p n m v old (orderRead s) y → Alone (s .refusal) (s .degree ∷ []) → (r ≡ s) × (x ≡ y)

@@ -1,5 +1,6 @@
 pub mod Unique
 pub mod Face
+pub mod Inverse
 pub mod Runs
 pub mod Demands
 pub mod Sheet

@@ -12,7 +12,8 @@ use Prim.Native.String.{String}
 use lib.ListN.{length}
 use lib.Dec.{eqb}
 use borrow.Author.Tests.{eq-eqb}
-use Rattle.algebra.specs.Field.{fp, inv, inv-steps, 𝟘, 𝟙, _⊕_, _⊗_, neg, isZero}
+use Rattle.algebra.specs.Field.{fp, 𝟘, 𝟙, _⊕_, _⊗_, neg, isZero}
+use Rattle.algebra.specs.InverseOrZero.{inv-or-𝟘, inv-or-𝟘-steps}
 use Rattle.algebra.specs.Row.{unit, 0ᵥ, _+ᵥ_, _·ᵥ_, comb}
 use Rattle.algebra.specs.Poly.{coef, poly, _⊞_, _⊡_, _⊠_, act}
 use Rattle.algebra.specs.Gcd.{size, head, monic, divide-turn, divide, gcd-steps, gcd, lcm, lcms}
@@ -56,7 +57,7 @@ AllWell [] = Unit {0}
 AllWell (x ∷ xs) = WellFormed (x .case) × AllWell xs
 
 listings-run : map run listings ≡ map claim listings
-unfolding run claim isPrime allBelow fp inv inv-steps 𝟘 𝟙 _⊕_ _⊗_ neg isZero unit 0ᵥ _+ᵥ_ _·ᵥ_ comb act coef poly _⊞_ _⊡_ _⊠_ size head
+unfolding run claim isPrime allBelow fp inv-or-𝟘 inv-or-𝟘-steps 𝟘 𝟙 _⊕_ _⊗_ neg isZero unit 0ᵥ _+ᵥ_ _·ᵥ_ comb act coef poly _⊞_ _⊡_ _⊠_ size head
     monic divide-turn divide gcd-steps gcd lcm lcms lead deeper clear reduce units product long clip tail clipKept newKept spin spinOver
     orderOf keep chain tab row rowAt byteRows rows times bytes e sum longest takenOf witnessOf standingOf ordersOf
     standOrders standTaken standPoly standWitness standOf chainOf same sameRows firstPower nextPower periodFrom periodOf linesOf

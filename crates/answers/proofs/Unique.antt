@@ -1,6 +1,7 @@
 -- One result for every input, of the code's own answers: an answer is known by what 01 calls it, so any two that a call's contract permits are the
 -- same, and so are the bytes that it leaves in the lent buffers.
 --   refused-only, given-only   a refusal is known by its number, a result by what is given
+--   given-some, given-none     of a result that may be none: by its number, and none is no number
 --   counts-path, given-counts   what a stand counts is known by its fields, also where it is given with a standing and a witness
 --   proved-short   the two standings differ
 --   inverted-only, ordered-only, imaged-only, stood-only, chained-only, perioded-only   answers with the same number or values are the same
@@ -36,11 +37,22 @@ refused-only A k j e = cc
 pub given-only : {A : Type 0} (r s : A) → given r ≡ given s → r ≡ s
 given-only r s e = cc
 
-inverted-only : (r s : Inverted) → invertedOf r ≡ invertedOf s → r ≡ s
-inverted-only (inverted.Inverse a) (inverted.Inverse b) e = ap inverted.Inverse (given-only a b e)
-inverted-only (inverted.Inverse a) (inverted.Refused k) e = absurd (refused-given k a (sym e))
-inverted-only (inverted.Refused k) (inverted.Inverse b) e = absurd (refused-given k b e)
-inverted-only (inverted.Refused k) (inverted.Refused j) e = ap inverted.Refused (refused-only ℕ k j e)
+given-some : (a b : ℕ) → given (some a) ≡ given (some b) → a ≡ b
+given-some a b e = Option·some-injective a b (given-only (some a) (some b) e)
+
+given-none : (b : ℕ) → ¬ (given none ≡ given (some b))
+given-none b e = Option·none-ne-some b (given-only none (some b) e)
+
+pub inverted-only : (r s : Inverted) → invertedOf r ≡ invertedOf s → r ≡ s
+inverted-only (inverted.Inverse a) (inverted.Inverse b) e = ap inverted.Inverse (given-some a b e)
+inverted-only (inverted.Inverse a) inverted.None e = absurd (given-none a (sym e))
+inverted-only (inverted.Inverse a) (inverted.Refused k) e = absurd (refused-given k (some a) (sym e))
+inverted-only inverted.None (inverted.Inverse b) e = absurd (given-none b e)
+inverted-only inverted.None inverted.None e = refl
+inverted-only inverted.None (inverted.Refused k) e = absurd (refused-given k none (sym e))
+inverted-only (inverted.Refused k) (inverted.Inverse b) e = absurd (refused-given k (some b) e)
+inverted-only (inverted.Refused k) inverted.None e = absurd (refused-given k none e)
+inverted-only (inverted.Refused k) (inverted.Refused j) e = ap inverted.Refused (refused-only (Option ℕ) k j e)
 
 ordered-only : (r s : Ordered) → orderedOf r ≡ orderedOf s → r ≡ s
 ordered-only (ordered.Degree a) (ordered.Degree b) e = ap ordered.Degree (given-only a b e)
@@ -84,10 +96,10 @@ chained-only (chained.Refused k) (chained.Stages b) e = absurd (refused-given k 
 chained-only (chained.Refused k) (chained.Refused j) e = ap chained.Refused (refused-only ℕ k j e)
 
 perioded-only : (r s : Perioded) → periodedOf r ≡ periodedOf s → r ≡ s
-perioded-only (perioded.Least a) (perioded.Least b) e = ap perioded.Least (Option·some-injective _ _ (given-only (some a) (some b) e))
-perioded-only (perioded.Least a) perioded.Never e = absurd (Option·none-ne-some a (sym (given-only (some a) none e)))
+perioded-only (perioded.Least a) (perioded.Least b) e = ap perioded.Least (given-some a b e)
+perioded-only (perioded.Least a) perioded.Never e = absurd (given-none a (sym e))
 perioded-only (perioded.Least a) (perioded.Refused k) e = absurd (refused-given k (some a) (sym e))
-perioded-only perioded.Never (perioded.Least b) e = absurd (Option·none-ne-some b (given-only none (some b) e))
+perioded-only perioded.Never (perioded.Least b) e = absurd (given-none b e)
 perioded-only perioded.Never perioded.Never e = refl
 perioded-only perioded.Never (perioded.Refused k) e = absurd (refused-given k none (sym e))
 perioded-only (perioded.Refused k) (perioded.Least b) e = absurd (refused-given k (some b) e)

@@ -20,8 +20,9 @@ use Rattle.calls.specs.declared.Chained.the-variants as chained
 use Rattle.calls.specs.declared.Perioded.{Perioded}
 use Rattle.calls.specs.declared.Perioded.the-variants as perioded
 
-abbrev pub invertedOf : Inverted → Answer ℕ
-invertedOf (inverted.Inverse r) = given r
+abbrev pub invertedOf : Inverted → Answer (Option ℕ)
+invertedOf (inverted.Inverse r) = given (some r)
+invertedOf inverted.None = given none
 invertedOf (inverted.Refused k) = refused k
 
 abbrev pub orderedOf : Ordered → Answer ℕ

@@ -8,8 +8,10 @@ ghost use Rattle.meaning.specs.Calls.{InverseCall, OrderCall, ImageCall, StandC
 ghost use Rattle.calls.specs.Answers.{invertedOf, orderedOf, imagedOf, stoodOf, chainedOf, periodedOf};
 use period::Returns;
 
+// 0 has no inverse.
 pub enum Inverted {
     Inverse(u8),
+    None,
     Refused(u8),
 }
 
@@ -57,13 +59,16 @@ fn put(from: &[u8], out: &mut [u8])
     rows::copy(from, &mut out[..n]);
 }
 
-// The inverse of a scalar modulo p, and 0 for 0.
+// The inverse of a scalar modulo p: the number from 1 to p − 1 that times the scalar is 1; none for 0.
 pub fn inverse(p: u32, a: u32) -> Inverted
     ensures { λ r. ⌜ InverseCall p a (invertedOf r) ⌝ }
 {
     let bad = refusals::of_inverse(p, a);
     if bad != 0 {
         return Inverted::Refused(bad);
+    }
+    if a == 0 {
+        return Inverted::None;
     }
     Inverted::Inverse(scalar::inverse(p as u8, a as u8))
 }

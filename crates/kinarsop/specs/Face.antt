@@ -3,6 +3,8 @@
 --   AllZero xs        every number of xs is 0
 --   Alone k xs        a refusal stands alone: where k is not 0, the other numbers xs of the answer are 0
 --   standingIn b      proved where b is true, else short
+--   noInverse         what an answer has in the place of an inverse where there is none
+--   inverseIn x       none where x is that, else the inverse x
 --   periodIn t        none where t is 0, else the period t
 --   standNumbers r    what a stand's answer has beside its refusal, the mark proved as 1
 --   inverseRead, orderRead, imageRead, standRead, chainRead, periodRead, sheetRead   the answer of each call, read off what its function returns
@@ -12,6 +14,7 @@ use mathlib.Core.Bool.{Bool, true, false, cond}
 use mathlib.Core.List.{List, [], _∷_}
 use mathlib.Core.Option.{Option, none, some}
 use Prim.Native.Nat.{ℕ, zero, suc}
+use lib.Dec.{eqb}
 use Rattle.meaning.specs.Stand.{Standing, proved, short, Outcome}
 use Rattle.meaning.specs.Calls.{Answer, refused, given}
 use Rattle.kinarsop.specs.declared.InverseAnswer.{InverseAnswer}
@@ -36,12 +39,18 @@ abbrev pub standingIn : Bool → Standing
 standingIn true = proved
 standingIn false = short
 
+abbrev pub noInverse : ℕ
+noInverse = 255
+
+abbrev pub inverseIn : ℕ → Option ℕ
+inverseIn x = cond (eqb x noInverse) none (some x)
+
 abbrev pub periodIn : ℕ → Option ℕ
 periodIn zero = none
 periodIn (suc t) = some (suc t)
 
-abbrev pub inverseRead : InverseAnswer → Answer ℕ
-inverseRead r = readAs (r .refusal) (r .inverse)
+abbrev pub inverseRead : InverseAnswer → Answer (Option ℕ)
+inverseRead r = readAs (r .refusal) (inverseIn (r .inverse))
 
 abbrev pub orderRead : OrderAnswer → Answer ℕ
 orderRead r = readAs (r .refusal) (r .degree)

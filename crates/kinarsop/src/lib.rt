@@ -19,6 +19,10 @@ use sheet::Sheeted;
 // The refusal of an answered call.
 const ANSWERED: u8 = 0;
 
+// What stands in the place of the inverse where there is none. It is above every prime, so that no inverse is it, and whoever takes it for one is
+// refused by every call.
+const NO_INVERSE: u8 = 255;
+
 #[repr(C)]
 pub struct InverseAnswer {
     pub refusal: u8,
@@ -71,6 +75,10 @@ pub extern "C" fn kinarsop_inverse(p: u32, a: u32) -> InverseAnswer
         Inverted::Inverse(inverse) => InverseAnswer {
             refusal: ANSWERED,
             inverse: inverse,
+        },
+        Inverted::None => InverseAnswer {
+            refusal: ANSWERED,
+            inverse: NO_INVERSE,
         },
         Inverted::Refused(number) => InverseAnswer {
             refusal: number,

@@ -3,6 +3,7 @@ pub mod Entries
 pub mod Written
 pub mod Refusal
 pub mod Called
+pub mod Inverse
 pub mod Unique
 pub mod Degrees
 pub mod Taken

@@ -13,7 +13,7 @@
 --   first-none, none-first   no number is due exactly when the first test does not apply and none is due for the rest
 --   size-told        n is 1 to 64 where tests 1 and 2 do not apply
 --   inverse-sound, order-sound, image-sound, stand-sound, chain-sound, period-sound   what is known of an input that the call does not refuse
---   sound-stand, sound-chain, sound-period   sound inputs with buffers that are long enough are not refused
+--   sound-inverse, sound-stand, sound-chain, sound-period   sound inputs with buffers that are long enough are not refused
 -- Assumes nothing.
 use mathlib.Core.Path.{_≡_, refl, sym, ap, _∙_}
 use mathlib.Core.Logic.{⊎-elim}
@@ -294,6 +294,10 @@ sound-chain p n m cs product stages A B h k =
     rw (prime-noPrime p (A .prime) (A .most), size-noSize n (A .some-size) (A .size), matrix-noMatrix n m (A .matrix))
     (rw (rows-noRows n cs (A .some-size) _ (B .whole) (B .few), small-badEntry p m (A .entries), small-badEntry p cs (B .entries))
     (rw (long-tooShort (n + 1) product h, long-tooShort (stageRoom n) stages k)))
+
+pub sound-inverse : (p a : ℕ) → isPrime p ≡ true → a < p → inverseRefusal p a ≡ none
+unfolding inverseRefusal noPrime first
+sound-inverse p a P h = rw (P, lt-leb p a h)
 
 pub sound-period : (p n : ℕ) (m : List ℕ) → Sound p n m → periodRefusal p n m ≡ none
 unfolding periodRefusal first

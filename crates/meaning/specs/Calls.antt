@@ -2,7 +2,7 @@
 --   Answer A           a refusal with its number, or a result
 --   Called q R old answer new   a call with the refusal q: refused by number, and no lent byte changes; or a result that R permits. `old` and `new`
 --                      are what the lent buffers hold before and after
---   InverseCall p a    the inverse of the scalar a
+--   InverseCall p a    the inverse of the scalar a, or none
 --   OrderResult, OrderCall   the order of one row: degree returned, n + 1 coefficients written
 --   ImageCall          v·f(M): n entries written
 --   StandResult, StandCall   the stand: polynomial buffer and witness buffer
@@ -33,7 +33,7 @@ pub record Called {A B : Type 0} (q : Option ℕ) (R : A → B → Type 0) (old 
   pub result : q ≡ none → (r : A) × (answer ≡ given r) × R r new
 
 -- calls that lend no buffer have `Unit` for it
-abbrev pub InverseCall : ℕ → ℕ → Answer ℕ → Type 0
+abbrev pub InverseCall : ℕ → ℕ → Answer (Option ℕ) → Type 0
 InverseCall p a answer = Called (inverseRefusal p a) (λ r new. IsInverse p a r) tt answer (tt {0})
 
 pub record OrderResult (p n : ℕ) (m v old : List ℕ) (degree : ℕ) (new : List ℕ) : Type 0 where

@@ -15,17 +15,17 @@ use Rattle.meaning.specs.Calls.{Answer, InverseCall, OrderCall, ImageCall, Stan
 use Rattle.meaning.proofs.Refusal.{inverse-sound, order-sound, stand-sound, chain-sound}
 use Rattle.meaning.proofs.Called.{called-exists, called-unique}
 use Rattle.meaning.proofs.Unique.{order-only, stand-only, witness-only, chain-only, period-only, inverse-only, alike-stageBytes}
-use Rattle.promises.specs.Run.{periodOf}
+use Rattle.promises.specs.Run.{periodOf, inverseOf}
 use Rattle.promises.proofs.Found.{inverse-found, order-found, stand-found, chain-found, period-found}
 use Rattle.algebra.proofs.Alike.{alike-length, alike-product}
 
-unfoldable pub inverse-exists : (p a : ℕ) → (answer : Answer ℕ) × InverseCall p a answer
+unfoldable pub inverse-exists : (p a : ℕ) → (answer : Answer (Option ℕ)) × InverseCall p a answer
 inverse-exists p a =
-    let c = called-exists (inverseRefusal p a) tt (λ q. let k = inverse-sound p a q in (_, tt, inverse-found p a (k .0) (k .2))) in
+    let c = called-exists (inverseRefusal p a) tt (λ q. let k = inverse-sound p a q in (inverseOf p a, tt, inverse-found p a (k .0) (k .2))) in
     (c .0, c .2)
 
-pub inverse-unique : {p a : ℕ} {x y : Answer ℕ} → InverseCall p a x → InverseCall p a y → x ≡ y
-inverse-unique {p} {a} A B = called-unique (λ q r s u w C D. let k = inverse-sound p a q in (inverse-only p a r s (k .0) (k .2) C D, refl)) A B .0
+pub inverse-unique : {p a : ℕ} {x y : Answer (Option ℕ)} → InverseCall p a x → InverseCall p a y → x ≡ y
+inverse-unique {p} {a} A B = called-unique (λ q r s u w C D. (inverse-only p a r s (inverse-sound p a q .0) C D, refl)) A B .0
 
 unfoldable pub order-exists : (p n : ℕ) (m v old : List ℕ) → (answer : Answer ℕ) × (new : List ℕ) × OrderCall p n m v old answer new
 order-exists p n m v old =

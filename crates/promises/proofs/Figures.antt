@@ -6,7 +6,8 @@ use mathlib.Core.Bool.{Bool, true}
 use mathlib.Core.List.{List, [], _∷_, map}
 use mathlib.Core.Option.{Option}
 use Prim.Native.Nat.{ℕ, suc}
-use Rattle.algebra.specs.Field.{fp, inv, inv-steps, 𝟘, 𝟙, _⊕_, _⊗_, neg, isZero}
+use Rattle.algebra.specs.Field.{fp, 𝟘, 𝟙, _⊕_, _⊗_, neg, isZero}
+use Rattle.algebra.specs.InverseOrZero.{inv-or-𝟘, inv-or-𝟘-steps}
 use Rattle.algebra.specs.Row.{unit, 0ᵥ, _+ᵥ_, _·ᵥ_, comb}
 use Rattle.algebra.specs.Poly.{Poly, coef, poly, _⊞_, _⊡_, _⊠_, act}
 use Rattle.algebra.specs.Gcd.{size, head, monic, divide-turn, divide, gcd-steps, gcd, lcm, lcms}
@@ -82,7 +83,7 @@ runs-hold [] q = tt
 runs-hold (g ∷ gs) q = (run-holds g (cc), runs-hold gs (cc))
 
 table-runs : map run table ≡ map claim table
-unfolding run claim isPrime allBelow fp inv inv-steps 𝟘 𝟙 _⊕_ _⊗_ neg isZero unit 0ᵥ _+ᵥ_ _·ᵥ_ comb act coef poly _⊞_ _⊡_ _⊠_ size head
+unfolding run claim isPrime allBelow fp inv-or-𝟘 inv-or-𝟘-steps 𝟘 𝟙 _⊕_ _⊗_ neg isZero unit 0ᵥ _+ᵥ_ _·ᵥ_ comb act coef poly _⊞_ _⊡_ _⊠_ size head
     monic divide-turn divide gcd-steps gcd lcm lcms lead deeper clear reduce units product long clip tail clipKept newKept spin spinOver
     orderOf keep chain tab row rowAt byteRows rows times bytes e sum longest table written columns takenOf witnessOf standingOf ordersOf
     standOrders standTaken standPoly standWitness standOf chainOf same sameRows firstPower nextPower periodFrom periodOf

@@ -1,5 +1,6 @@
 pub mod Found
 pub mod Calls
+pub mod Inverse
 pub mod Figures
 pub mod Demand2
 pub mod Demand3

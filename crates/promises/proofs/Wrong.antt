@@ -3,7 +3,7 @@
 --   corrected r            the same call, with the answer and the buffers that `..-exists` gives
 --   corrected-permitted    that reply is permitted
 --   corrected-only         whatever is permitted is that reply
---   answerNumbers, standingNumber, outcomeNumbers, periodNumbers, replyNumbers   an answer with its buffers in numbers
+--   answerNumbers, standingNumber, outcomeNumbers, optionNumbers, replyNumbers   an answer with its buffers in numbers
 --   sameReply              whether two replies have the same numbers
 --   runTrial               of a trial the right reply corrected, and of each wrong one whether it is the same when corrected
 --   claimTrial             what these should be: the right reply, and no wrong one
@@ -17,7 +17,8 @@ use mathlib.Core.List.{List, [], _∷_, map}
 use mathlib.Core.Option.{Option, none, some}
 use Prim.Native.Nat.{ℕ}
 use Prim.Native.String.{String}
-use Rattle.algebra.specs.Field.{fp, inv, inv-steps, 𝟘, 𝟙, _⊕_, _⊗_, neg, isZero}
+use Rattle.algebra.specs.Field.{fp, 𝟘, 𝟙, _⊕_, _⊗_, neg, isZero}
+use Rattle.algebra.specs.InverseOrZero.{inv-or-𝟘, inv-or-𝟘-steps}
 use Rattle.algebra.specs.Row.{unit, 0ᵥ, _+ᵥ_, _·ᵥ_, comb}
 use Rattle.algebra.specs.Poly.{coef, poly, _⊞_, _⊡_, _⊠_, act}
 use Rattle.algebra.specs.Gcd.{size, head, monic, divide-turn, divide, gcd-steps, gcd, lcm, lcms}
@@ -92,17 +93,17 @@ standingNumber short = 1
 outcomeNumbers : Outcome → List ℕ
 outcomeNumbers r = standingNumber (r .standing) ∷ r .degree ∷ r .taken ∷ r .spent ∷ r .witness ∷ []
 
-periodNumbers : Option ℕ → List ℕ
-periodNumbers none = []
-periodNumbers (some t) = t ∷ []
+optionNumbers : Option ℕ → List ℕ
+optionNumbers none = []
+optionNumbers (some t) = t ∷ []
 
 replyNumbers : Reply → List (List ℕ)
-replyNumbers (inverse-reply p a x) = answerNumbers (λ r. r ∷ []) x ∷ []
+replyNumbers (inverse-reply p a x) = answerNumbers optionNumbers x ∷ []
 replyNumbers (order-reply p n m v out x) = answerNumbers (λ r. r ∷ []) (x .0) ∷ x .1 ∷ []
 replyNumbers (image-reply p n m v f out x) = answerNumbers (λ r. []) (x .0) ∷ x .1 ∷ []
 replyNumbers (stand-reply p n m cs a poly image x) = answerNumbers outcomeNumbers (x .0) ∷ x .1 ∷ x .2 ∷ []
 replyNumbers (chain-reply p n m cs product stages x) = answerNumbers (λ r. r ∷ []) (x .0) ∷ x .1 ∷ x .2 ∷ []
-replyNumbers (period-reply p n m x) = answerNumbers periodNumbers x ∷ []
+replyNumbers (period-reply p n m x) = answerNumbers optionNumbers x ∷ []
 
 sameReply : Reply → Reply → Bool
 sameReply r s = sameRows (replyNumbers r) (replyNumbers s)
@@ -126,9 +127,9 @@ trials-shut (t ∷ ts) q =
     ((subst Permitted (ap (λ x. x .0) h) (corrected-permitted (t .right)), replies-shut (t .wrong) (ap (λ x. x .1) h)), trials-shut ts (cc))
 
 trials-run : map runTrial wrongAnswers ≡ map claimTrial wrongAnswers
-unfolding runTrial claimTrial sameReply replyNumbers answerNumbers standingNumber outcomeNumbers periodNumbers corrected called-exists inverse-exists
+unfolding runTrial claimTrial sameReply replyNumbers answerNumbers standingNumber outcomeNumbers optionNumbers corrected called-exists inverse-exists
     order-exists image-exists stand-exists chain-exists period-exists isPrime allBelow every noPrime noSize noMatrix noRows noVector noPolynomial
-    badEntry tooShort first inverseRefusal orderRefusal imageRefusal standRefusal chainRefusal periodRefusal fp inv inv-steps 𝟘 𝟙 _⊕_ _⊗_ neg
+    badEntry tooShort first inverseRefusal orderRefusal imageRefusal standRefusal chainRefusal periodRefusal fp inv-or-𝟘 inv-or-𝟘-steps 𝟘 𝟙 _⊕_ _⊗_ neg
     isZero unit 0ᵥ _+ᵥ_ _·ᵥ_ comb act coef poly _⊞_ _⊡_ _⊠_ size head monic divide-turn divide gcd-steps gcd lcm lcms lead deeper clear reduce
     units product long clip tail clipKept newKept spin spinOver orderOf keep chain tab row polyOf rowAt byteRows rows times bytes e write padded
     image stageBytes sum longest takenOf witnessOf standingOf ordersOf standOrders standTaken standPoly standWitness standOf chainOf same sameRows

@@ -25,7 +25,7 @@ use Rattle.meaning.specs.Calls.{Answer, refused, given, InverseCall, OrderCall,
 use Rattle.promises.specs.Figures.{Figure, P1, P2, P3, P4, P5, P6, P7, P8, P9, P10, P11}
 
 pub data Reply : Type 0 where
-  inverse-reply : (p a : ℕ) → Answer ℕ → Reply
+  inverse-reply : (p a : ℕ) → Answer (Option ℕ) → Reply
   order-reply : (p n : ℕ) (m v out : List ℕ) → Answer ℕ × List ℕ → Reply
   image-reply : (p n : ℕ) (m v f out : List ℕ) → Answer (Unit {0}) × List ℕ → Reply
   stand-reply : (p n : ℕ) (m cs : List ℕ) (a : ℕ) (poly image : List ℕ) → Answer Outcome × List ℕ × List ℕ → Reply
@@ -103,30 +103,41 @@ chainLeft p n m cs product stages x = chain-reply p n m cs product stages (x, pr
 unfoldable pub wrongInverses : List Trial
 wrongInverses =
     -- 3·5 = 15 = 1 modulo 7
-    tried (inverse-reply 7 3) (given 5)
-    (("0 for a scalar that has an inverse", given 0)
-    ∷ ("another number", given 4)
-    ∷ ("the opposite: a sign lost in the divisions", given 2)
-    ∷ ("the scalar itself", given 3)
-    ∷ ("not reduced modulo p", given 12)
+    tried (inverse-reply 7 3) (given (some 5))
+    (("none for a scalar that has an inverse", given none)
+    ∷ ("0 for a scalar that has an inverse", given (some 0))
+    ∷ ("another number", given (some 4))
+    ∷ ("the opposite: a sign lost in the divisions", given (some 2))
+    ∷ ("the scalar itself", given (some 3))
+    ∷ ("not reduced modulo p", given (some 12))
     ∷ numbered "refused, and nothing is wrong" (0 ∷ 1 ∷ 2 ∷ 3 ∷ 4 ∷ 5 ∷ 6 ∷ 7 ∷ 8 ∷ []))
-    -- the inverse of 0 is given as 0
-    ∷ tried (inverse-reply 5 0) (given 0)
-    (("1 for 0", given 1) ∷ ("p for 0", given 5) ∷ ("0 refused as having no inverse", refused 5) ∷ [])
-    -- the edges of p: 2 and 251 are taken; 253 is 11·23
-    ∷ tried (inverse-reply 2 1) (given 1) (("2 refused", refused 1) ∷ [])
-    ∷ tried (inverse-reply 251 250) (given 250) (("251 refused", refused 1) ∷ [])
-    ∷ tried (inverse-reply 0 0) (refused 1) (("p = 0 answered", given 0) ∷ ("test 5 before test 1", refused 5) ∷ [])
-    ∷ tried (inverse-reply 1 0) (refused 1) (("p = 1 answered", given 0) ∷ [])
-    ∷ tried (inverse-reply 4 3) (refused 1) (("p = 4 answered", given 3) ∷ [])
-    ∷ tried (inverse-reply 253 2) (refused 1) (("p = 253 answered", given 127) ∷ [])
-    ∷ tried (inverse-reply 257 2) (refused 1) (("a prime over 251 answered", given 129) ∷ [])
-    ∷ tried (inverse-reply 258 1) (refused 1) (("p = 258 cut to a byte and answered as 2", given 1) ∷ [])
+    -- 0 has no inverse, and that is a result
+    ∷ tried (inverse-reply 5 0) (given none)
+    (("0 for 0", given (some 0))
+    ∷ ("1 for 0", given (some 1))
+    ∷ ("p for 0", given (some 5))
+    ∷ numbered "0 refused as having no inverse" (0 ∷ 1 ∷ 2 ∷ 3 ∷ 4 ∷ 5 ∷ 6 ∷ 7 ∷ 8 ∷ []))
+    ∷ tried (inverse-reply 2 0) (given none) (("0 for 0", given (some 0)) ∷ ("0 refused", refused 5) ∷ [])
+    ∷ tried (inverse-reply 251 0) (given none) (("0 for 0", given (some 0)) ∷ ("0 refused", refused 5) ∷ [])
+    -- 1 and p − 1 have one, also where they are the same; and the edges of p: 2 and 251 are taken; 253 is 11·23
+    ∷ tried (inverse-reply 5 1) (given (some 1)) (("none for 1", given none) ∷ ("p − 1 for 1", given (some 4)) ∷ [])
+    ∷ tried (inverse-reply 5 4) (given (some 4)) (("none for p − 1", given none) ∷ ("1 for p − 1", given (some 1)) ∷ [])
+    ∷ tried (inverse-reply 2 1) (given (some 1)) (("none for 1, which is p − 1", given none) ∷ ("2 refused", refused 1) ∷ [])
+    ∷ tried (inverse-reply 251 250) (given (some 250)) (("none for p − 1", given none) ∷ ("251 refused", refused 1) ∷ [])
+    ∷ tried (inverse-reply 0 0) (refused 1) (("p = 0 answered", given none) ∷ ("test 5 before test 1", refused 5) ∷ [])
+    ∷ tried (inverse-reply 1 0) (refused 1) (("p = 1 answered", given none) ∷ [])
+    ∷ tried (inverse-reply 4 0) (refused 1) (("p = 4 answered, since 0 has no inverse anyway", given none) ∷ [])
+    ∷ tried (inverse-reply 4 3) (refused 1) (("p = 4 answered", given (some 3)) ∷ [])
+    ∷ tried (inverse-reply 253 2) (refused 1) (("p = 253 answered", given (some 127)) ∷ [])
+    ∷ tried (inverse-reply 257 2) (refused 1) (("a prime over 251 answered", given (some 129)) ∷ [])
+    ∷ tried (inverse-reply 258 1) (refused 1) (("p = 258 cut to a byte and answered as 2", given (some 1)) ∷ [])
     -- scalars of p and more
-    ∷ tried (inverse-reply 4 4) (refused 1) (("test 5 before test 1", refused 5) ∷ ("p taken for 0", given 0) ∷ [])
-    ∷ tried (inverse-reply 5 5) (refused 5) (("p taken for 0", given 0) ∷ ("another number", refused 1) ∷ [])
-    ∷ tried (inverse-reply 5 7) (refused 5) (("the scalar reduced first", given 3) ∷ [])
-    ∷ tried (inverse-reply 5 258) (refused 5) (("the scalar cut to a byte", given 3) ∷ [])
+    ∷ tried (inverse-reply 4 4) (refused 1) (("test 5 before test 1", refused 5) ∷ ("p taken for 0", given none) ∷ [])
+    ∷ tried (inverse-reply 5 5) (refused 5) (("p taken for 0", given none) ∷ ("another number", refused 1) ∷ [])
+    ∷ tried (inverse-reply 5 6) (refused 5) (("the scalar reduced first", given (some 1)) ∷ [])
+    ∷ tried (inverse-reply 5 7) (refused 5) (("the scalar reduced first", given (some 3)) ∷ [])
+    ∷ tried (inverse-reply 5 256) (refused 5) (("the scalar cut to a byte", given none) ∷ [])
+    ∷ tried (inverse-reply 5 258) (refused 5) (("the scalar cut to a byte", given (some 3)) ∷ [])
     ∷ []
 
 unfoldable pub wrongOrders : List Trial
