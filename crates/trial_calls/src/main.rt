@@ -1,5 +1,5 @@
 // Makes the call that each line of standard input names and prints the line's word, the answer, and every lent buffer whole, as it is after the
-// call. Comment lines, which begin with `#`, and empty ones are printed as they are. At most 65,536 bytes are read.
+// call. Comment lines, which begin with `#`, and empty ones are printed as they are. At most 131,072 bytes are read.
 mod chain;
 mod image;
 mod inverse;
@@ -87,7 +87,7 @@ fn run_all(text: &[u8]) {
 }
 
 fn main() {
-    let mut text = io::large_buffer();
+    let mut text = [0u8; 131072];
     let n = io::read_full(STDIN_FILENO, &mut text);
     run_all(&text[..n]);
 }

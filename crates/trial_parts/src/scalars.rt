@@ -60,10 +60,14 @@ fn is_prime(line: &[u8]) {
     }
 }
 
-// The inverse is asked for modulo a prime only.
+// The inverse is asked for modulo a prime only, and of no scalar that is 0.
 fn inverse(line: &[u8]) {
     let p = prime(line);
     let a = first(line);
+    if a == 0 {
+        refuse();
+        return;
+    }
     if a < p {
         trial_lines::print_byte(scalar::inverse(p, a));
     } else {

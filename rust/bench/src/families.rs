@@ -306,10 +306,10 @@ fn shear(p: u64, m: &mut Matrix, i: usize, j: usize, k: u64) {
     }
 }
 
-/// Row i is multiplied by k, and column i by its inverse.
+/// Row i is multiplied by k, which is not 0 modulo p, and column i by its inverse.
 fn stretch(p: u64, m: &mut Matrix, i: usize, k: u64) {
     m[i].iter_mut().for_each(|x| *x = *x * k % p);
-    let back = inverse(p, k);
+    let back = inverse(p, k).expect("the factor is not zero");
     m.iter_mut().for_each(|row| row[i] = row[i] * back % p);
 }
 

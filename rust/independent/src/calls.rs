@@ -211,7 +211,7 @@ fn narrow(list: &[u64]) -> Vec<u8> {
 #[derive(Debug, Clone, PartialEq, Eq)]
 pub enum Answer {
     Refused(u8),
-    Inverse(u64),
+    Inverse(Option<u64>),
     Degree(usize),
     Written,
     Stood {
@@ -403,7 +403,7 @@ mod tests {
         Call::of_line(&Line::parse(text))
     }
 
-    fn refusal(text: &str) -> Answer {
+    fn answer(text: &str) -> Answer {
         outcome(&read(text)).answer
     }
 
@@ -428,16 +428,16 @@ mod tests {
     #[test]
     fn the_18_bytes_as_calls() {
         let stood = outcome(&read("stand 3 | 2 | 0 1 2 0 | 1 0 | 2 | 5*9 | 9 9"));
-        let answer = Answer::Stood {
+        let expected = Answer::Stood {
             proved: true,
             degree: 2,
             taken: 1,
             spent: 2,
             witness: 0,
         };
-        assert_eq!(stood.answer, answer);
+        assert_eq!(stood.answer, expected);
         assert_eq!(stood.slices[2..], [vec![1, 0, 1, 9, 9], vec![0, 0]]);
-        assert_eq!(refusal("period 3 | 2 | 0 1 2 0"), Answer::Period(Some(4)));
+        assert_eq!(answer("period 3 | 2 | 0 1 2 0"), Answer::Period(Some(4)));
     }
 
     #[test]
@@ -450,18 +450,32 @@ mod tests {
         assert_eq!(outcome(&call), expected);
     }
 
+    /// None is a result: what is refused is refused for 0 too, and 0 is not.
+    #[test]
+    fn the_inverse_of_zero_is_none() {
+        for p in [2, 3, 251] {
+            let of = |a: u64| answer(&format!("inverse {p} | {a}"));
+            assert_eq!(of(0), Answer::Inverse(None));
+            assert_eq!(of(1), Answer::Inverse(Some(1)));
+            assert_eq!(of(p - 1), Answer::Inverse(Some(p - 1)));
+            assert_eq!(of(p), Answer::Refused(ENTRIES));
+            assert_eq!(of(p + 1), Answer::Refused(ENTRIES));
+        }
+        assert_eq!(answer("inverse 4 | 0"), Answer::Refused(PRIME));
+    }
+
     /// n·n is not formed where n is no size.
     #[test]
     fn sizes_without_bound() {
         for n in [0, 65, 1 << 32, (1 << 32) + 2, u64::MAX] {
             let text = format!("period 3 | {n} | 0 1 2 0");
-            assert_eq!(refusal(&text), Answer::Refused(SIZE));
+            assert_eq!(answer(&text), Answer::Refused(SIZE));
         }
     }
 
     #[test]
     fn a_sheet_is_refused_for_its_buffer_alone() {
-        assert_eq!(refusal("sheet  | 2047*0"), Answer::Refused(BUFFERS));
-        assert_eq!(refusal("sheet  | 2048*0"), Answer::Length(10));
+        assert_eq!(answer("sheet  | 2047*0"), Answer::Refused(BUFFERS));
+        assert_eq!(answer("sheet  | 2048*0"), Answer::Length(10));
     }
 }

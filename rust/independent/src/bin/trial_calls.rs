@@ -10,7 +10,8 @@ use independent::lines::{self, Line};
 fn shown(answer: &Answer) -> String {
     match answer {
         Answer::Refused(number) => format!("refused {number}"),
-        Answer::Inverse(inverse) => inverse.to_string(),
+        Answer::Inverse(Some(inverse)) => inverse.to_string(),
+        Answer::Inverse(None) => "none".to_string(),
         Answer::Degree(degree) => format!("degree {degree}"),
         Answer::Written => "written".to_string(),
         Answer::Stood {

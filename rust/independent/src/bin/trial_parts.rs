@@ -57,7 +57,7 @@ fn answer(line: &Line) -> Option<String> {
         "product" => (a * b % modulus(line)?).to_string(),
         "inverse" => {
             let p = prime(line).filter(|&p| a < p)?;
-            naive::inverse(p, a).to_string()
+            naive::inverse(p, a)?.to_string()
         }
         "bad" => match naive::first_bad(line.number(0), line.group(1)) {
             Some(place) => place.to_string(),
