@@ -65,7 +65,8 @@ enum kinarsop_refusal {
     KINARSOP_NO_CASE = 8
 };
 
-/* The bounds, and the rooms: buffers of so many bytes are enough for every p and n. */
+/* The bounds; the rooms: buffers of so many bytes are enough for every p and n; and the number that
+   stands for no inverse. */
 enum kinarsop_bound {
     KINARSOP_LARGEST_PRIME = 251,
     KINARSOP_LARGEST_N = 64,
@@ -77,11 +78,20 @@ enum kinarsop_bound {
     KINARSOP_POLYNOMIAL_ROOM = 65,
     KINARSOP_ROW_ROOM = 64,
     KINARSOP_STAGE_ROOM = 128,
-    KINARSOP_SHEET_ROOM = 2048
+    KINARSOP_SHEET_ROOM = 2048,
+    /* It is above every p: it is no inverse, and as an entry, a coefficient or a scalar it is
+       refused by 5. */
+    KINARSOP_NO_INVERSE = 255
 };
 
-/* The inverse of the scalar a modulo p; that of 0 is given as 0.
-   Refused by 1 (p), 5 (a). */
+/* The inverse of the scalar a modulo p: the b from 1 to p - 1 with a*b = 1 modulo p.
+   `inverse` is that b. KINARSOP_NO_INVERSE (and refusal 0): there is none; a is 0. Look for it
+   before you scale by an inverse. 0 stands in `inverse` beside a refusal alone.
+   Refused by 1 (p), 5 (a).
+
+       a = kinarsop_inverse(7, 3);
+
+   gives the inverse 5, and with 0 in the place of 3 KINARSOP_NO_INVERSE. */
 struct kinarsop_inverse_answer {
     uint8_t refusal;
     uint8_t inverse;

@@ -15,9 +15,12 @@ pub(crate) const ROW_ROOM: usize = 64;
 pub(crate) const STAGE_ROOM: usize = 128;
 /// Room for every sheet.
 pub(crate) const SHEET_ROOM: usize = 2_048;
+/// What stands for no inverse, as in include/kinarsop.h: above every p, so that it is no inverse.
+pub(crate) const NO_INVERSE: u8 = 255;
 
 // What the calls return. `refusal` is 0 where a call is answered; else it is the number of the refusal, and all else is 0.
 
+/// The inverse is 1 to p − 1, or the number for none.
 #[repr(C)]
 pub(crate) struct InverseAnswer {
     pub(crate) refusal: u8,

@@ -51,6 +51,7 @@
 mod chain;
 #[allow(unsafe_code)]
 mod face;
+mod inverse;
 mod refusal;
 mod stand;
 
@@ -75,19 +76,19 @@ pub const FULL_ALLOWANCE: u32 = 8_192;
 /// The bytes of the longest case file. Of a longer file one byte more is enough: with all of them the sheet is refused at the same place.
 pub const LONGEST_CASE: usize = 12_682;
 
-/// The inverse of a modulo p, and 0 for 0.
+/// The inverse of a modulo p: the b from 1 to p − 1 with a·b = 1 modulo p. `None` says that there is no such b: a is 0.
 ///
 /// Refused: [`Prime`](Refusal::Prime); [`Entry`](Refusal::Entry) where a is p or more.
 ///
 /// ```
-/// assert_eq!(kinarsop::inverse(7, 3), Ok(5));
-/// assert_eq!(kinarsop::inverse(7, 0), Ok(0));
+/// assert_eq!(kinarsop::inverse(7, 3), Ok(Some(5)));
+/// assert_eq!(kinarsop::inverse(7, 0), Ok(None));
 /// assert_eq!(kinarsop::inverse(9, 2), Err(kinarsop::Refusal::Prime));
 /// ```
-pub fn inverse(p: u32, a: u32) -> Result<u8, Refusal> {
+pub fn inverse(p: u32, a: u32) -> Result<Option<u8>, Refusal> {
     let answer = face::inverse(p, a);
     Refusal::read(answer.refusal)?;
-    Ok(answer.inverse)
+    Ok(inverse::read_inverse(answer.inverse))
 }
 
 /// The order of a row: the monic polynomial f of least degree with v·f(M) = 0. That of the zero row is 1.

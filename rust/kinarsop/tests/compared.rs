@@ -110,7 +110,7 @@ fn expected_stand(found: naive::Stand) -> Stand {
 fn inverses() {
     for p in (0..=251).filter(|&p| naive::is_prime(p)) {
         for a in 0..p {
-            let expected = naive::inverse(p, a) as u8;
+            let expected = naive::inverse(p, a).map(|b| b as u8);
             assert_eq!(inverse(p as u32, a as u32), Ok(expected));
         }
     }

@@ -1,5 +1,5 @@
 //! 01's figures P1 to P11, and orders, images and inverses that are seen at a glance.
-use kinarsop::{chain, image, inverse, order, period, stand, Chain, Stand};
+use kinarsop::{chain, image, inverse, order, period, stand, Chain, Refusal, Stand};
 
 fn proved(minimal_polynomial: &[u8], taken: usize, spent: u32) -> Stand {
     Stand::Proved {
@@ -125,7 +125,14 @@ fn images() {
 #[test]
 fn inverses() {
     for p in [2, 3, 5, 7, 127, 251] {
-        assert_eq!(inverse(p, 0), Ok(0));
-        assert!((1..p).all(|a| a * u32::from(inverse(p, a).unwrap()) % p == 1));
+        assert_eq!(inverse(p, 0), Ok(None));
+        for a in 1..p {
+            let b = inverse(p, a).unwrap().expect("only 0 has no inverse");
+            assert!((1..p).contains(&b.into()), "{p} {a} {b}");
+            assert_eq!(a * u32::from(b) % p, 1, "{p} {a} {b}");
+        }
+        for a in [p, p + 1] {
+            assert_eq!(inverse(p, a), Err(Refusal::Entry));
+        }
     }
 }

@@ -250,6 +250,8 @@ fn bounds() {
         };
         assert_eq!(found, expected);
     }
+    // 0 has no inverse, and is not refused.
+    assert_eq!(inverse(251, 0), Ok(None));
     for a in 0..256 {
         let expected = (251 <= a).then_some(Refusal::Entry);
         assert_eq!(inverse(251, a).err(), expected);

@@ -174,7 +174,7 @@ fn several_threads() {
             let candidates: Vec<u8> = (0..128).flat_map(|i| unit_row(i % N)).collect();
             for _ in 0..3 {
                 assert_eq!(sheet(&file).as_deref(), Ok(&text[..]));
-                assert_eq!(inverse(251, 2), Ok(126));
+                assert_eq!(inverse(251, 2), Ok(Some(126)));
                 assert_eq!(period(251, N, &round()), Ok(Some(64)));
                 let found = stand(251, N, &round(), &candidates, FULL_ALLOWANCE).unwrap();
                 assert_eq!(found.minimal_polynomial(), Some(&round_polynomial()[..]));
