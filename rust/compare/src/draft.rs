@@ -67,7 +67,16 @@ impl Draft {
     fn scalar_or_allowance(&self, numbers: &mut Numbers, name: Name) -> u64 {
         match name {
             Name::Stand => stated(numbers, self.laid).unwrap_or(DEFAULT_ALLOWANCE),
-            _ => numbers.below(self.below),
+            _ => self.scalar(numbers),
+        }
+    }
+
+    /// 0, which has no inverse, and 1 and p − 1, which are their own, are drawn as often as all others together.
+    fn scalar(&self, numbers: &mut Numbers) -> u64 {
+        if numbers.once_in(2) {
+            numbers.below(self.below)
+        } else {
+            numbers.one_of(&[0, 1 % self.below, self.below - 1])
         }
     }
 
@@ -100,6 +109,20 @@ mod tests {
     use super::*;
     use crate::made::primes;
     use independent::calls::refusal;
+
+    /// Of every modulus 0, 1 and p − 1 are among a few scalars, and others too.
+    #[test]
+    fn telling_scalars_are_drawn() {
+        let mut numbers = Numbers(2);
+        for p in primes() {
+            let draft = Draft::sound(p, 1);
+            let drawn: Vec<u64> = (0..60).map(|_| draft.scalar(&mut numbers)).collect();
+            assert!(drawn.iter().all(|&a| a < p));
+            assert!([0, 1, p - 1].iter().all(|a| drawn.contains(a)), "{p}");
+            let others = drawn.iter().any(|&a| 1 < a && a < p - 1);
+            assert_eq!(others, 3 < p, "{p}");
+        }
+    }
 
     #[test]
     fn a_sound_draft_is_not_refused() {

@@ -2,6 +2,7 @@
 //! have each fault, and a set is made in all of them. A few ways bring a later fault with them: p = 0 leaves no entry that is below p, and a size
 //! past every slice leaves no slice of the right length.
 use crate::draft::Draft;
+use crate::lend::NO_INVERSE;
 use crate::made::primes;
 use independent::calls::{
     Call, Name, BUFFERS, ENTRIES, MATRIX, MOST_COEFFICIENTS, POLYNOMIAL, PRIME, ROWS, SIZE, TABLE,
@@ -109,9 +110,9 @@ const LENGTHS: usize = 4;
 const POLYNOMIALS: [usize; 3] = [0, MOST_COEFFICIENTS + 1, 255];
 
 /// How many scalars are tried that are p or more.
-const SCALARS: usize = 4;
+const SCALARS: usize = 5;
 
-/// A bad entry is at the first, the middle or the last place of a list, and is p or 255.
+/// A bad entry is at the first, the middle or the last place of a list, and is p or what stands for no inverse.
 const PLACES: usize = 3;
 const VALUES: usize = 2;
 
@@ -188,7 +189,13 @@ fn row_sizes(name: Name, n: usize) -> [Option<usize>; LENGTHS] {
 }
 
 fn scalars(p: u32) -> [u32; SCALARS] {
-    [p, p.saturating_add(1), p.saturating_add(256), u32::MAX]
+    [
+        p,
+        p.saturating_add(1),
+        p.saturating_add(256),
+        p.max(NO_INVERSE.into()),
+        u32::MAX,
+    ]
 }
 
 /// The list with zeros added or its end taken off.
@@ -200,7 +207,7 @@ fn resize(list: &mut Vec<u8>, length: Option<usize>) -> Option<()> {
 /// A bad entry in one of the lists that are read.
 fn spoil(call: &mut Call, way: usize) -> Option<()> {
     let (list, rest) = (way / (PLACES * VALUES), way % (PLACES * VALUES));
-    let value = u8::try_from([call.p, 255][rest % VALUES]).ok()?;
+    let value = u8::try_from([call.p, NO_INVERSE.into()][rest % VALUES]).ok()?;
     let list = &mut call.slices[list];
     let last = list.len().checked_sub(1)?;
     list[[0, last / 2, last][rest / VALUES]] = value;
@@ -301,6 +308,15 @@ mod tests {
         assert_eq!(twice[0], twice[1]);
         let sound = twice[0].iter().filter(|call| refusal(call).is_none());
         assert_eq!(sound.count(), SOUND * Name::ALL.len());
+    }
+
+    /// 0, which has no inverse, is one in ten of the sound scalars or more, and the others are the most.
+    #[test]
+    fn zero_is_inverted_too() {
+        let sound = |call: &Call| call.name == Name::Inverse && refusal(call).is_none();
+        let scalars: Vec<u32> = calls(1, 3).filter(sound).map(|call| call.k).collect();
+        let zeros = scalars.iter().filter(|&&a| a == 0).count();
+        assert!((SOUND / 10..SOUND / 2).contains(&zeros), "{zeros}");
     }
 
     #[test]

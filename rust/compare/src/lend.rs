@@ -74,6 +74,10 @@ fn batch(inputs: &[Input]) -> Vec<u8> {
 /// The refusal and the fields of an answer, with zeros behind them.
 const NUMBERS: usize = 6;
 
+/// What an inverse's field has where there is none, `KINARSOP_NO_INVERSE` in include/kinarsop.h: above every modulus, so that every call refuses it
+/// as an entry, a coefficient or a scalar.
+pub const NO_INVERSE: u8 = 255;
+
 /// What is seen of a call from outside.
 #[derive(Debug, Clone, PartialEq, Eq)]
 pub struct Seen {
@@ -121,7 +125,7 @@ fn numbers(answer: &Answer) -> [u64; NUMBERS] {
     let only = |x: u64| [0, x, 0, 0, 0, 0];
     match *answer {
         Answer::Refused(number) => [number.into(), 0, 0, 0, 0, 0],
-        Answer::Inverse(inverse) => only(inverse),
+        Answer::Inverse(found) => only(found.unwrap_or(NO_INVERSE.into())),
         Answer::Degree(degree) => only(degree as u64),
         Answer::Written => only(0),
         Answer::Stood {
@@ -290,6 +294,8 @@ mod tests {
         let seen = |text: &str| Seen::expected(&call(text)).numbers;
         assert_eq!(seen("inverse 4 | 3"), [1, 0, 0, 0, 0, 0]);
         assert_eq!(seen("inverse 5 | 3"), [0, 2, 0, 0, 0, 0]);
+        assert_eq!(seen("inverse 5 | 0"), [0, 255, 0, 0, 0, 0]);
+        assert_eq!(seen("inverse 5 | 5"), [5, 0, 0, 0, 0, 0]);
         assert_eq!(seen("order 2 | 1 | 0 | 1 | 2*0"), [0, 1, 0, 0, 0, 0]);
         assert_eq!(seen("image 2 | 1 | 0 | 1 | 1 | 0"), [0; NUMBERS]);
         let proved = seen("stand 3 | 2 | 0 1 2 0 | 1 0 | 9 | 3*0 | 2*0");
@@ -300,6 +306,14 @@ mod tests {
         assert_eq!(seen("period 3 | 2 | 0 1 2 0"), [0, 4, 0, 0, 0, 0]);
         assert_eq!(seen("period 2 | 1 | 0"), [0; NUMBERS]);
         assert_eq!(seen("sheet | 2048*0"), [0, 10, 0, 0, 0, 0]);
+    }
+
+    /// The number is passed on as it comes, so that the header could name another.
+    #[test]
+    fn the_header_has_the_number_for_no_inverse() {
+        let header = include_str!("../../../include/kinarsop.h");
+        let named = format!("KINARSOP_NO_INVERSE = {NO_INVERSE}\n");
+        assert!(header.contains(&named), "{named}");
     }
 
     #[test]

@@ -1,5 +1,5 @@
 //! Changes of a call: those that may spoil it, and one that makes it sound again.
-use crate::lend::LONGEST;
+use crate::lend::{LONGEST, NO_INVERSE};
 use crate::made::{case_of, shuffle, smudge, MARK, MOST_STATED};
 use independent::calls::{Call, Name, MOST_COEFFICIENTS, SHEET_ROOM, WIDEST};
 use independent::case::{Case, MOST_CANDIDATES};
@@ -71,10 +71,10 @@ pub fn some_size(numbers: &mut Numbers) -> u64 {
 
 /// A change of anything that is lent.
 pub fn mutate(numbers: &mut Numbers, call: &mut Call) {
-    if call.name == Name::Sheet {
-        mutate_sheet(numbers, call);
-    } else {
-        mutate_numbers_or_slices(numbers, call);
+    match call.name {
+        Name::Sheet => mutate_sheet(numbers, call),
+        Name::Inverse => mutate_inverse(numbers, call),
+        _ => mutate_numbers_or_slices(numbers, call),
     }
     call.drop_unused();
     call.slices.iter_mut().for_each(|s| s.truncate(LONGEST));
@@ -82,7 +82,7 @@ pub fn mutate(numbers: &mut Numbers, call: &mut Call) {
 
 fn mutate_numbers_or_slices(numbers: &mut Numbers, call: &mut Call) {
     match numbers.below(12) {
-        0 => call.p = near_or_one_of(numbers, call.p.into(), &MODULI.map(u64::from)) as u32,
+        0 => change_modulus(numbers, call),
         1 => call.n = near_or_one_of(numbers, call.n, &SIZES),
         2 => call.k = near_or_one_of(numbers, call.k.into(), &ALLOWANCES.map(u64::from)) as u32,
         3 => resized(numbers, call),
@@ -91,6 +91,34 @@ fn mutate_numbers_or_slices(numbers: &mut Numbers, call: &mut Call) {
         9 => change_length(numbers, call),
         _ => smudge_slice(numbers, call),
     }
+}
+
+/// Another scalar, now and then another modulus. There is no size and no slice to change.
+fn mutate_inverse(numbers: &mut Numbers, call: &mut Call) {
+    match numbers.below(4) {
+        0 => change_modulus(numbers, call),
+        _ => call.k = near_or_one_of(numbers, call.k.into(), &telling_scalars(call.p)) as u32,
+    }
+}
+
+/// Both ends of the scalars that have an inverse, what is beside them, what stands for no inverse, and numbers past a byte.
+fn telling_scalars(p: u32) -> [u64; 9] {
+    let p = u64::from(p);
+    [
+        0,
+        1,
+        2,
+        p.saturating_sub(1),
+        p,
+        p + 1,
+        p + 256,
+        NO_INVERSE.into(),
+        u32::MAX.into(),
+    ]
+}
+
+fn change_modulus(numbers: &mut Numbers, call: &mut Call) {
+    call.p = near_or_one_of(numbers, call.p.into(), &MODULI.map(u64::from)) as u32;
 }
 
 /// One more, one less, or a telling number.

@@ -153,7 +153,7 @@ mod tests {
     use super::*;
     use crate::lend::Seen;
     use crate::tally::Tally;
-    use independent::calls::{TABLE, WIDEST};
+    use independent::calls::{outcome, Answer, ENTRIES, TABLE, WIDEST};
     use independent::lines::Line;
 
     #[test]
@@ -192,6 +192,27 @@ mod tests {
         for name in Name::ALL {
             let count = inputs.iter().filter(|x| x.call.name == name).count();
             assert!(ROUND / 100 < count, "{name:?}: {count}");
+        }
+    }
+
+    /// Of a modulus of any size 0, which has no inverse, and scalars that have one are answered, and scalars are refused.
+    #[test]
+    fn inverses_of_all_sorts() {
+        let inputs: Vec<Input> = (0..10).flat_map(|round| inputs(1, round)).collect();
+        for moduli in [2..=2, 3..=13, 14..=LARGEST_PRIME] {
+            let of = |call: &&Call| call.name == Name::Inverse && moduli.contains(&call.p.into());
+            let calls = inputs.iter().map(|x| &x.call).filter(of);
+            let answers: Vec<Answer> = calls.map(|call| outcome(call).answer).collect();
+            let share = |sort: fn(&Answer) -> bool| {
+                100 * answers.iter().filter(|answer| sort(answer)).count() / answers.len()
+            };
+            let none = share(|answer| *answer == Answer::Inverse(None));
+            let some = share(|answer| matches!(answer, Answer::Inverse(Some(_))));
+            let refused = share(|answer| *answer == Answer::Refused(ENTRIES));
+            assert!(
+                5 <= none && 20 <= some && 5 <= refused,
+                "{moduli:?}: {none}, {some}, {refused} %"
+            );
         }
     }
 
