@@ -19,8 +19,8 @@ use sheet::Sheeted;
 // The refusal of an answered call.
 const ANSWERED: u8 = 0;
 
-// What stands in the place of the inverse where there is none. It is above every prime, so that no inverse is it, and whoever takes it for one is
-// refused by every call.
+// What stands in the place of an inverse where there is none. It is above every prime: no inverse is it, and a call that is given it as an entry or a
+// scalar refuses it.
 const NO_INVERSE: u8 = 255;
 
 #[repr(C)]
