@@ -2,37 +2,45 @@
 --   isPrime-prime, prime-isPrime   the prime test is right, both ways
 --   prime-positive   a prime is above 0
 --   prime-told       test 1, from what a prime test said
---   noPrime-false, noSize-false, noMatrix-false, noRows-false, noVector-false, noPolynomial-false, badEntry-false, tooShort-false
+--   noPrime-false, noSize-false, noMatrix-false, noRows-false, noVector-false, noPolynomial-false, tooShort-false
 --                    where a test does not apply, what it looks at is good
---   prime-noPrime, size-noSize, matrix-noMatrix, rows-noRows, vector-noVector, polynomial-noPolynomial, small-badEntry, long-tooShort
+--   prime-noPrime, size-noSize, matrix-noMatrix, rows-noRows, vector-noVector, polynomial-noPolynomial, long-tooShort
 --                    and where that is good, the test does not apply
 --   rows-over, rows-whole   whole rows leave no rest, and the other way round
 --   small-append     bytes below p behind bytes below p
+--   refuse-here, refuse-none   what a test gives where it applies, and where it does not
+--   none-refuse, none-refuseAt, refuseAt-none   and from what it gives, whether it applies
 --   first-here, first-next, first-end   the first test of a list applies, or does not, or there is none
---   first-front, first-past   a number due from the front of a list is due from the whole; where none is due, the rest decides
---   first-none, none-first   no number is due exactly when the first test does not apply and none is due for the rest
+--   first-past, first-front   where the front of a list refuses nothing, the rest decides; what it refuses, the whole list refuses
+--   first-none, first-clear   where nothing is refused, no test of the list applies
 --   size-told        n is 1 to 64 where tests 1 and 2 do not apply
+--   none-entries, entries-none, none-coefficients, none-scalar, scalar-none   entries are good exactly where their test does not apply
 --   inverse-sound, order-sound, image-sound, stand-sound, chain-sound, period-sound   what is known of an input that the call does not refuse
+--   AllNone, none-first   no test of a list applies, and so nothing is refused
+--   sound-shape, sound-rows   the tests that calls on a matrix share, and those that stand and chain share
 --   sound-inverse, sound-stand, sound-chain, sound-period   sound inputs with buffers that are long enough are not refused
 -- Assumes nothing.
 use mathlib.Core.Path.{_≡_, refl, sym, ap, _∙_}
 use mathlib.Core.Logic.{⊎-elim}
 use mathlib.Core.Bool.{Bool, true, false, not, _&&_, _||_, true≢false, and-eq-true-iff}
 use mathlib.Core.List.{List, [], _∷_, _++_}
-use mathlib.Core.Option.{none, some, Option·none-ne-some}
+use mathlib.Core.Option.{Option, none, some, Option·none-ne-some, map-eq-none-iff}
 use Prim.Native.Nat.{ℕ, zero, suc, _+_, _*_, _/_, _%_, _<_, _≤_}
 use native.Mathlib.Nat.{add-zero, le-refl, le-step, le-of-suc-le-suc, not-suc-le-zero, eq-or-lt-of-le, div-add-mod', mul-mod-left, div-eq-of-eq-mul-left}
 use native.Mathlib.Decide.{decLe}
 use native.Mathlib.Omega.{arith}
 use lib.ListN.{length, getD}
-use lib.Dec.{leb, ltb, eqb}
-use borrow.Author.Tests.{ltb-true, ltb-false, leb-true, leb-false, eqb-true, eqb-false, not-true, not-false, lt-ltb, le-ltb, le-leb, lt-leb, eq-eqb, ne-eqb}
+use lib.Dec.{leb, eqb}
+use borrow.Author.Tests.{ltb-false, leb-true, eqb-true, eqb-false, not-true, not-false, le-ltb, le-leb, lt-leb, eq-eqb, ne-eqb}
 use Rattle.algebra.specs.Field.{Prime}
-use Rattle.meaning.specs.Refusal.{allBelow, isPrime, every, noPrime, noSize, noMatrix, noRows, noVector, noPolynomial, badEntry, tooShort, first}
+use Rattle.meaning.specs.Refusal.{Refusal, alone, refuse, refuseAt, allBelow, isPrime, noPrime, noSize, noMatrix, noRows, noVector, noPolynomial, badEntry}
+use Rattle.meaning.specs.Refusal.{badCoefficient, badScalar, tooShort, first}
 use Rattle.meaning.specs.Refusal.{inverseRefusal, orderRefusal, imageRefusal, standRefusal, chainRefusal, periodRefusal}
+use Rattle.meaning.specs.Entry.{Cell}
 use Rattle.meaning.specs.Bytes.{Small}
 use Rattle.meaning.specs.Bounds.{largestPrime, mostCandidates, coefficients, widest, Sound, SoundRows}
 use Rattle.meaning.specs.Chain.{stageRoom}
+use Rattle.meaning.proofs.Entry.{badCell-none, small-badCell}
 
 -- tests joined
 or-false : (a b : Bool) → (a || b) ≡ false → (a ≡ false) × (b ≡ false)
@@ -147,18 +155,6 @@ pub polynomial-noPolynomial : (f : List ℕ) → 1 ≤ length f → length f ≤
 unfolding noPolynomial
 polynomial-noPolynomial f h k = between-false 1 (length f) coefficients h k
 
-pub badEntry-false : (p : ℕ) (l : List ℕ) → badEntry p l ≡ false → Small p l
-unfolding badEntry every
-badEntry-false p [] q = tt
-badEntry-false p (x ∷ l) q =
-    let t = both-true (ltb x p) _ q in
-    (ltb-true x p (t .0), badEntry-false p l (ap not (t .1)))
-
-pub small-badEntry : (p : ℕ) (l : List ℕ) → Small p l → badEntry p l ≡ false
-unfolding badEntry every
-small-badEntry p [] h = refl
-small-badEntry p (x ∷ l) h = rw (lt-ltb x p (h .0)) (small-badEntry p l (h .1))
-
 pub small-append : (p : ℕ) (a b : List ℕ) → Small p a → Small p b → Small p (a ++ b)
 small-append p [] b h k = k
 small-append p (x ∷ a) b h k = (h .0, small-append p a b (h .1) k)
@@ -171,96 +167,139 @@ pub long-tooShort : (k : ℕ) (out : List ℕ) → k ≤ length out → tooShort
 unfolding tooShort
 long-tooShort k out h = le-ltb (length out) k h
 
--- the first test that applies
-pub first-here : (k : ℕ) (b : Bool) (ts : List (ℕ × Bool)) → b ≡ true → first ((k, b) ∷ ts) ≡ some k
-unfolding first
-first-here k b ts e = rw e
+-- what a test gives
+pub refuse-here : {k : ℕ} {b : Bool} → b ≡ true → refuse k b ≡ some (alone k)
+unfolding refuse
+refuse-here e = rw e
 
-pub first-next : (k : ℕ) (b : Bool) (ts : List (ℕ × Bool)) → b ≡ false → first ((k, b) ∷ ts) ≡ first ts
+pub refuse-none : (k : ℕ) {b : Bool} → b ≡ false → refuse k b ≡ none
+unfolding refuse
+refuse-none k e = rw e
+
+none-refuse : (k : ℕ) (b : Bool) → refuse k b ≡ none → b ≡ false
+unfolding refuse
+none-refuse k true q = absurd (Option·none-ne-some (alone k) (sym q))
+none-refuse k false q = refl
+
+none-refuseAt : (k : ℕ) (o : Option Cell) → refuseAt k o ≡ none → o ≡ none
+unfolding refuseAt
+none-refuseAt k o q = map-eq-none-iff _ o .0 q
+
+refuseAt-none : (k : ℕ) (o : Option Cell) → o ≡ none → refuseAt k o ≡ none
+unfolding refuseAt
+refuseAt-none k o e = rw e
+
+-- the first test that applies
+pub first-here : {q : Refusal} (t : Option Refusal) (ts : List (Option Refusal)) → t ≡ some q → first (t ∷ ts) ≡ some q
 unfolding first
-first-next k b ts e = rw e
+first-here t ts e = rw e
+
+pub first-next : (t : Option Refusal) (ts : List (Option Refusal)) → t ≡ none → first (t ∷ ts) ≡ first ts
+unfolding first
+first-next t ts e = rw e
 
 pub first-end : first [] ≡ none
 unfolding first
 first-end = refl
 
-pub first-front : {k : ℕ} (ts us : List (ℕ × Bool)) → first ts ≡ some k → first (ts ++ us) ≡ some k
-unfolding first
-first-front {k} [] us e = absurd (Option·none-ne-some k e)
-first-front ((j, true) ∷ ts) us e = e
-first-front ((j, false) ∷ ts) us e = first-front ts us e
-
-pub first-past : (ts us : List (ℕ × Bool)) → first ts ≡ none → first (ts ++ us) ≡ first us
+pub first-past : (ts us : List (Option Refusal)) → first ts ≡ none → first (ts ++ us) ≡ first us
 unfolding first
 first-past [] us e = refl
-first-past ((j, true) ∷ ts) us e = absurd (Option·none-ne-some j (sym e))
-first-past ((j, false) ∷ ts) us e = first-past ts us e
+first-past (some q ∷ ts) us e = absurd (Option·none-ne-some q (sym e))
+first-past (none ∷ ts) us e = first-past ts us e
 
-first-none : (k : ℕ) (b : Bool) (ts : List (ℕ × Bool)) → first ((k, b) ∷ ts) ≡ none → (b ≡ false) × (first ts ≡ none)
+pub first-front : {q : Refusal} (ts us : List (Option Refusal)) → first ts ≡ some q → first (ts ++ us) ≡ some q
 unfolding first
-first-none k true ts q = absurd (Option·none-ne-some k (sym q))
-first-none k false ts q = (refl, q)
+first-front {q} [] us e = absurd (Option·none-ne-some q e)
+first-front (some r ∷ ts) us e = e
+first-front (none ∷ ts) us e = first-front ts us e
 
-pub none-first : (k : ℕ) (b : Bool) (ts : List (ℕ × Bool)) → b ≡ false → first ts ≡ none → first ((k, b) ∷ ts) ≡ none
+first-none : (t : Option Refusal) (ts : List (Option Refusal)) → first (t ∷ ts) ≡ none → (t ≡ none) × (first ts ≡ none)
 unfolding first
-none-first k true ts q r = absurd (true≢false q)
-none-first k false ts q r = r
+first-none (some q) ts e = absurd (Option·none-ne-some q (sym e))
+first-none none ts e = (refl, e)
 
--- where no number is due, test i of the list does not apply, counted from 0
-first-clear : (ts : List (ℕ × Bool)) → first ts ≡ none → (i : ℕ) → getD ts i (0, false) .1 ≡ false
+-- where nothing is refused, test i of the list does not apply, counted from 0
+first-clear : (ts : List (Option Refusal)) → first ts ≡ none → (i : ℕ) → getD ts i none ≡ none
 first-clear [] q i = refl
-first-clear (t ∷ ts) q zero = first-none (t .0) (t .1) ts q .0
-first-clear (t ∷ ts) q (suc i) = first-clear ts (first-none (t .0) (t .1) ts q .1) i
+first-clear (t ∷ ts) q zero = first-none t ts q .0
+first-clear (t ∷ ts) q (suc i) = first-clear ts (first-none t ts q .1) i
 
 -- n is in its bounds where test 2 does not apply
-pub size-told : (p n : ℕ) (ts : List (ℕ × Bool)) → first ((1, noPrime p) ∷ (2, noSize n) ∷ ts) ≡ none → (1 ≤ n) × (n ≤ widest)
-size-told p n ts q = noSize-false n (first-none _ _ _ (first-none _ _ _ q .1) .0)
+pub size-told : (p n : ℕ) (ts : List (Option Refusal)) → first (refuse 1 (noPrime p) ∷ refuse 2 (noSize n) ∷ ts) ≡ none → (1 ≤ n) × (n ≤ widest)
+size-told p n ts q = noSize-false n (none-refuse 2 _ (first-none _ _ (first-none _ _ q .1) .0))
+
+-- entries are good exactly where their test does not apply
+none-entries : (k p n : ℕ) (l : List ℕ) → refuseAt k (badEntry p n l) ≡ none → Small p l
+unfolding badEntry
+none-entries k p n l q = badCell-none 1 p n l (none-refuseAt k _ q)
+
+entries-none : (k p n : ℕ) (l : List ℕ) → Small p l → refuseAt k (badEntry p n l) ≡ none
+unfolding badEntry
+entries-none k p n l h = refuseAt-none k _ (small-badCell 1 p n l h)
+
+none-coefficients : (k p : ℕ) (f : List ℕ) → refuseAt k (badCoefficient p f) ≡ none → Small p f
+unfolding badCoefficient
+none-coefficients k p f q = badCell-none 0 p (length f) f (none-refuseAt k _ q)
+
+none-scalar : (k p a : ℕ) → refuseAt k (badScalar p a) ≡ none → a < p
+unfolding badScalar
+none-scalar k p a q = none-coefficients k p (a ∷ []) q .0
+
+pub scalar-none : (k p a : ℕ) → a < p → refuseAt k (badScalar p a) ≡ none
+unfolding badScalar badCoefficient
+scalar-none k p a h = refuseAt-none k _ (small-badCell 0 p 1 (a ∷ []) (h, tt))
 
 -- what is known of an input that is not refused
-sound : (p n : ℕ) (m : List ℕ) → noPrime p ≡ false → noSize n ≡ false → noMatrix n m ≡ false → badEntry p m ≡ false → Sound p n m
+sound : (p n : ℕ) (m : List ℕ) → refuse 1 (noPrime p) ≡ none → refuse 2 (noSize n) ≡ none → refuse 3 (noMatrix n m) ≡ none
+    → refuseAt 5 (badEntry p n m) ≡ none → Sound p n m
 sound p n m a b c d =
-    let P = noPrime-false p a in
-    let N = noSize-false n b in
-    record { prime = P .0; most = P .1; some-size = N .0; size = N .1; matrix = noMatrix-false n m c; entries = badEntry-false p m d }
+    let P = noPrime-false p (none-refuse 1 _ a) in
+    let N = noSize-false n (none-refuse 2 _ b) in
+    record {
+      prime = P .0;
+      most = P .1;
+      some-size = N .0;
+      size = N .1;
+      matrix = noMatrix-false n m (none-refuse 3 _ c);
+      entries = none-entries 5 p n m d;
+    }
 
 -- the tests of stand and chain, which lend two buffers
 rows-sound : (p n : ℕ) (m cs : List ℕ) (j : ℕ) (a : List ℕ) (k : ℕ) (b : List ℕ)
-    → first ((1, noPrime p) ∷ (2, noSize n) ∷ (3, noMatrix n m) ∷ (4, noRows n cs) ∷ (5, badEntry p m || badEntry p cs)
-    ∷ (6, tooShort j a || tooShort k b) ∷ []) ≡ none
+    → first (refuse 1 (noPrime p) ∷ refuse 2 (noSize n) ∷ refuse 3 (noMatrix n m) ∷ refuse 4 (noRows n cs)
+    ∷ refuseAt 5 (badEntry p n m) ∷ refuseAt 10 (badEntry p n cs) ∷ refuse 6 (tooShort j a || tooShort k b) ∷ []) ≡ none
     → Sound p n m × SoundRows p n cs × (j ≤ length a) × (k ≤ length b)
 rows-sound p n m cs j a k b q =
     let c = first-clear _ q in
-    let g = or-false (badEntry p m) (badEntry p cs) (c 4) in
-    let s = or-false (tooShort j a) (tooShort k b) (c 5) in
-    let A = sound p n m (c 0) (c 1) (c 2) (g .0) in
-    let r = noRows-false n cs (A .some-size) (c 3) in
-    (A, record { whole = r .0; few = r .1; entries = badEntry-false p cs (g .1) }, tooShort-false j a (s .0), tooShort-false k b (s .1))
+    let s = or-false (tooShort j a) (tooShort k b) (none-refuse 6 _ (c 6)) in
+    let A = sound p n m (c 0) (c 1) (c 2) (c 4) in
+    let r = noRows-false n cs (A .some-size) (none-refuse 4 _ (c 3)) in
+    (A, record { whole = r .0; few = r .1; entries = none-entries 10 p n cs (c 5) }, tooShort-false j a (s .0), tooShort-false k b (s .1))
 
 pub inverse-sound : (p a : ℕ) → inverseRefusal p a ≡ none → Prime p × (p ≤ largestPrime) × (a < p)
 unfolding inverseRefusal
 inverse-sound p a q =
     let c = first-clear _ q in
-    let P = noPrime-false p (c 0) in
-    (P .0, P .1, leb-false p a (c 1))
+    let P = noPrime-false p (none-refuse 1 _ (c 0)) in
+    (P .0, P .1, none-scalar 11 p a (c 1))
 
 pub order-sound : (p n : ℕ) (m v out : List ℕ) → orderRefusal p n m v out ≡ none → Sound p n m × (length v ≡ n) × Small p v × (n + 1 ≤ length out)
 unfolding orderRefusal
 order-sound p n m v out q =
     let c = first-clear _ q in
-    let g = or-false (badEntry p m) (badEntry p v) (c 4) in
-    let A = sound p n m (c 0) (c 1) (c 2) (g .0) in
-    (A, noVector-false n v (c 3), badEntry-false p v (g .1), tooShort-false (n + 1) out (c 5))
+    let A = sound p n m (c 0) (c 1) (c 2) (c 4) in
+    (A, noVector-false n v (none-refuse 4 _ (c 3)), none-entries 10 p n v (c 5), tooShort-false (n + 1) out (none-refuse 6 _ (c 6)))
 
 pub image-sound : (p n : ℕ) (m v f out : List ℕ) → imageRefusal p n m v f out ≡ none
     → Sound p n m × (length v ≡ n) × (1 ≤ length f) × (length f ≤ coefficients) × Small p v × Small p f × (n ≤ length out)
 unfolding imageRefusal
 image-sound p n m v f out q =
     let c = first-clear _ q in
-    let l = noPolynomial-false f (c 4) in
-    let g = or-false (badEntry p m) _ (c 5) in
-    let s = or-false (badEntry p v) (badEntry p f) (g .1) in
-    let A = sound p n m (c 0) (c 1) (c 2) (g .0) in
-    (A, noVector-false n v (c 3), l .0, l .1, badEntry-false p v (s .0), badEntry-false p f (s .1), tooShort-false n out (c 6))
+    let l = noPolynomial-false f (none-refuse 7 _ (c 4)) in
+    let A = sound p n m (c 0) (c 1) (c 2) (c 5) in
+    let w = noVector-false n v (none-refuse 4 _ (c 3)) in
+    (A, w, l .0, l .1, none-entries 10 p n v (c 6), none-coefficients 11 p f (c 7), tooShort-false n out (none-refuse 6 _ (c 8)))
 
 pub stand-sound : (p n : ℕ) (m cs poly image : List ℕ) → standRefusal p n m cs poly image ≡ none
     → Sound p n m × SoundRows p n cs × (n + 1 ≤ length poly) × (n ≤ length image)
@@ -279,27 +318,46 @@ period-sound p n m q =
     sound p n m (c 0) (c 1) (c 2) (c 3)
 
 -- and the other way round: sound inputs are not refused by the calls that a sheet makes
+AllNone : List (Option Refusal) → Type 0
+AllNone [] = Unit {0}
+AllNone (t ∷ ts) = (t ≡ none) × AllNone ts
+
+none-first : (ts : List (Option Refusal)) → AllNone ts → first ts ≡ none
+unfolding AllNone
+none-first [] h = first-end
+none-first (t ∷ ts) h = first-next t ts (h .0) ∙ none-first ts (h .1)
+
+-- the tests that every call on a matrix runs
+sound-shape : (p n : ℕ) (m : List ℕ) → Sound p n m → (refuse 1 (noPrime p) ≡ none) × (refuse 2 (noSize n) ≡ none) × (refuse 3 (noMatrix n m) ≡ none)
+sound-shape p n m A =
+    (refuse-none 1 (prime-noPrime p (A .prime) (A .most)), refuse-none 2 (size-noSize n (A .some-size) (A .size)), refuse-none 3 (matrix-noMatrix n m (A .matrix)))
+
+sound-rows : (p n : ℕ) (m cs : List ℕ) (j : ℕ) (a : List ℕ) (k : ℕ) (b : List ℕ) → Sound p n m → SoundRows p n cs → j ≤ length a → k ≤ length b
+    → first (refuse 1 (noPrime p) ∷ refuse 2 (noSize n) ∷ refuse 3 (noMatrix n m) ∷ refuse 4 (noRows n cs)
+    ∷ refuseAt 5 (badEntry p n m) ∷ refuseAt 10 (badEntry p n cs) ∷ refuse 6 (tooShort j a || tooShort k b) ∷ []) ≡ none
+unfolding AllNone
+sound-rows p n m cs j a k b A B h i =
+    let (x, y, z) = sound-shape p n m A in
+    let whole = refuse-none 4 (rows-noRows n cs (A .some-size) _ (B .whole) (B .few)) in
+    let room : refuse 6 (tooShort j a || tooShort k b) ≡ none = refuse-none 6 (rw (long-tooShort j a h, long-tooShort k b i)) in
+    none-first _ (x, (y, (z, (whole, (entries-none 5 p n m (A .entries), (entries-none 10 p n cs (B .entries), (room, tt)))))))
+
 pub sound-stand : (p n : ℕ) (m cs poly image : List ℕ) → Sound p n m → SoundRows p n cs → n + 1 ≤ length poly → n ≤ length image
     → standRefusal p n m cs poly image ≡ none
-unfolding standRefusal first
-sound-stand p n m cs poly image A B h k =
-    rw (prime-noPrime p (A .prime) (A .most), size-noSize n (A .some-size) (A .size), matrix-noMatrix n m (A .matrix))
-    (rw (rows-noRows n cs (A .some-size) _ (B .whole) (B .few), small-badEntry p m (A .entries), small-badEntry p cs (B .entries))
-    (rw (long-tooShort (n + 1) poly h, long-tooShort n image k)))
+unfolding standRefusal
+sound-stand p n m cs poly image = sound-rows p n m cs (n + 1) poly n image
 
 pub sound-chain : (p n : ℕ) (m cs product stages : List ℕ) → Sound p n m → SoundRows p n cs → n + 1 ≤ length product → stageRoom n ≤ length stages
     → chainRefusal p n m cs product stages ≡ none
-unfolding chainRefusal first
-sound-chain p n m cs product stages A B h k =
-    rw (prime-noPrime p (A .prime) (A .most), size-noSize n (A .some-size) (A .size), matrix-noMatrix n m (A .matrix))
-    (rw (rows-noRows n cs (A .some-size) _ (B .whole) (B .few), small-badEntry p m (A .entries), small-badEntry p cs (B .entries))
-    (rw (long-tooShort (n + 1) product h, long-tooShort (stageRoom n) stages k)))
+unfolding chainRefusal
+sound-chain p n m cs product stages = sound-rows p n m cs (n + 1) product (stageRoom n) stages
 
 pub sound-inverse : (p a : ℕ) → isPrime p ≡ true → a < p → inverseRefusal p a ≡ none
-unfolding inverseRefusal noPrime first
-sound-inverse p a P h = rw (P, lt-leb p a h)
+unfolding inverseRefusal AllNone noPrime
+sound-inverse p a P h = none-first _ (refuse-none 1 (rw P), (scalar-none 11 p a h, tt))
 
 pub sound-period : (p n : ℕ) (m : List ℕ) → Sound p n m → periodRefusal p n m ≡ none
-unfolding periodRefusal first
+unfolding periodRefusal AllNone
 sound-period p n m A =
-    rw (prime-noPrime p (A .prime) (A .most), size-noSize n (A .some-size) (A .size), matrix-noMatrix n m (A .matrix), small-badEntry p m (A .entries))
+    let (x, y, z) = sound-shape p n m A in
+    none-first _ (x, (y, (z, (entries-none 5 p n m (A .entries), tt))))

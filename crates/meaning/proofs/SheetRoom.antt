@@ -26,14 +26,14 @@ use Rattle.meaning.specs.Bytes.{times, rows, e, bytes, Small}
 use Rattle.meaning.specs.Bounds.{largestPrime, mostCandidates, widest, Sound, SoundRows}
 use Rattle.meaning.specs.Stand.{Standing, proved, short, Outcome, Tested}
 use Rattle.meaning.specs.Period.{longest, IsPeriod}
-use Rattle.meaning.specs.Refusal.{first, tooShort}
+use Rattle.meaning.specs.Refusal.{alone, refuse, tooShort, first}
 use Rattle.meaning.specs.Calls.{given}
 use Rattle.meaning.specs.Line.{decimal, Line, spaced, lineBytes, text}
 use Rattle.meaning.specs.Sheet.{fieldLine, standLines, stageLine, chainLine, periodLine, refusedLine, SheetLines, sheetRoom, SheetCall}
 use Rattle.meaning.proofs.Bytes.{bytes-length, bytes-small, rows-count, times-linear}
 use Rattle.meaning.proofs.Degrees.{orders-count, stand-degree, chain-total}
 use Rattle.meaning.proofs.Line.{decimal-length, text-append}
-use Rattle.meaning.proofs.Refusal.{none-first, long-tooShort}
+use Rattle.meaning.proofs.Refusal.{refuse-here, refuse-none, first-here, first-next, first-end, long-tooShort}
 use Rattle.meaning.proofs.Called.{called-given}
 use Rattle.meaning.proofs.Written.{write-covers}
 
@@ -41,13 +41,12 @@ pub room-bytes : sheetRoom ≡ 2048
 unfolding sheetRoom
 room-bytes = refl
 
-pub room-six : (out : List ℕ) → length out < sheetRoom → first ((6, tooShort sheetRoom out) ∷ []) ≡ some 6
-unfolding first tooShort
-room-six out h = rw (lt-ltb (length out) sheetRoom h)
+pub room-six : (out : List ℕ) → length out < sheetRoom → first (refuse 6 (tooShort sheetRoom out) ∷ []) ≡ some (alone 6)
+unfolding tooShort
+room-six out h = first-here _ [] (refuse-here (lt-ltb (length out) sheetRoom h))
 
-pub room-none : (out : List ℕ) → sheetRoom ≤ length out → first ((6, tooShort sheetRoom out) ∷ []) ≡ none
-unfolding first
-room-none out h = none-first 6 _ [] (long-tooShort sheetRoom out h) refl
+pub room-none : (out : List ℕ) → sheetRoom ≤ length out → first (refuse 6 (tooShort sheetRoom out) ∷ []) ≡ none
+room-none out h = first-next _ [] (refuse-none 6 (long-tooShort sheetRoom out h)) ∙ first-end
 
 pub given-size : {s old new : List ℕ} {k : ℕ} → SheetCall s old (given k) new → k ≤ length new
 given-size {old = old} h =

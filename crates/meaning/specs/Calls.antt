@@ -1,6 +1,6 @@
 -- The calls (01, "The calls"), refused ones included: for each input, what is answered and what the lent buffers hold afterwards.
---   Answer A           a refusal with its number, or a result
---   Called q R old answer new   a call with the refusal q: refused by number, and no lent byte changes; or a result that R permits. `old` and `new`
+--   Answer A           a refusal, or a result
+--   Called q R old answer new   a call with the refusal q: refused with it, and no lent byte changes; or a result that R permits. `old` and `new`
 --                      are what the lent buffers hold before and after
 --   InverseCall p a    the inverse of the scalar a, or none
 --   OrderResult, OrderCall   the order of one row: degree returned, n + 1 coefficients written
@@ -22,14 +22,14 @@ use Rattle.meaning.specs.Stand.{Outcome, IsStand, witnessRow}
 use Rattle.meaning.specs.Chain.{IsChain, stageBytes, stageRoom}
 use Rattle.meaning.specs.Inverse.{IsInverse}
 use Rattle.meaning.specs.Period.{IsPeriod}
-use Rattle.meaning.specs.Refusal.{inverseRefusal, orderRefusal, imageRefusal, standRefusal, chainRefusal, periodRefusal}
+use Rattle.meaning.specs.Refusal.{Refusal, inverseRefusal, orderRefusal, imageRefusal, standRefusal, chainRefusal, periodRefusal}
 
 pub data Answer (A : Type 0) : Type 0 where
-  refused : ℕ → Answer A
+  refused : Refusal → Answer A
   given : A → Answer A
 
-pub record Called {A B : Type 0} (q : Option ℕ) (R : A → B → Type 0) (old : B) (answer : Answer A) (new : B) : Type 0 where
-  pub refusal : (k : ℕ) → q ≡ some k → (answer ≡ refused k) × (new ≡ old)
+pub record Called {A B : Type 0} (q : Option Refusal) (R : A → B → Type 0) (old : B) (answer : Answer A) (new : B) : Type 0 where
+  pub refusal : (k : Refusal) → q ≡ some k → (answer ≡ refused k) × (new ≡ old)
   pub result : q ≡ none → (r : A) × (answer ≡ given r) × R r new
 
 -- calls that lend no buffer have `Unit` for it

@@ -5,6 +5,7 @@ pub mod Stand
 pub mod Chain
 pub mod Inverse
 pub mod Period
+pub mod Entry
 pub mod Refusal
 pub mod Calls
 pub mod Case

@@ -25,7 +25,7 @@ use Rattle.meaning.specs.Bytes.{times, e, bytes, write}
 use Rattle.meaning.specs.Stand.{Standing, proved, short, Outcome, IsStand}
 use Rattle.meaning.specs.Chain.{IsChain}
 use Rattle.meaning.specs.Period.{IsPeriod}
-use Rattle.meaning.specs.Refusal.{first, tooShort}
+use Rattle.meaning.specs.Refusal.{refuse, tooShort, first}
 use Rattle.meaning.specs.Calls.{Answer, Called}
 use Rattle.meaning.specs.Case.{Case, IsCase, Place, matrixBytes, candidateBytes, allowanceOf}
 use Rattle.meaning.specs.Line.{Line, text}
@@ -87,4 +87,4 @@ pub record SheetResult (s old : List ℕ) (count : ℕ) (new : List ℕ) : Type 
   pub buffer : new ≡ write printed old
 
 abbrev pub SheetCall : List ℕ → List ℕ → Answer ℕ → List ℕ → Type 0
-SheetCall s old = Called (first ((6, tooShort sheetRoom old) ∷ [])) (SheetResult s old) old
+SheetCall s old = Called (first (refuse 6 (tooShort sheetRoom old) ∷ [])) (SheetResult s old) old

@@ -1,3 +1,2 @@
 pub mod Loops
 pub mod Laws
-pub mod FirstBad
