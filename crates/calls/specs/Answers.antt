@@ -1,11 +1,12 @@
 -- What 01 calls the answers of the code: for each case of an answer its number or its values.
 --   countedAs s c w   what a stand returns: its standing, its counts and its witness
---   invertedOf, orderedOf, imagedOf, stoodOf, chainedOf, periodedOf   a refusal with its number, or the result
+--   invertedOf, orderedOf, imagedOf, stoodOf, chainedOf, periodedOf   a refusal, or the result
 -- Assumes nothing.
 use mathlib.Core.Option.{Option, none, some}
 use Prim.Native.Nat.{ℕ}
 use Rattle.meaning.specs.Stand.{Standing, proved, short, Outcome}
 use Rattle.meaning.specs.Calls.{Answer, refused, given}
+use Rattle.refusals.specs.Reasons.{asRefusal}
 use Rattle.calls.specs.declared.Inverted.{Inverted}
 use Rattle.calls.specs.declared.Inverted.the-variants as inverted
 use Rattle.calls.specs.declared.Ordered.{Ordered}
@@ -21,17 +22,17 @@ use Rattle.calls.specs.declared.Perioded.{Perioded}
 use Rattle.calls.specs.declared.Perioded.the-variants as perioded
 
 abbrev pub invertedOf : Inverted → Answer (Option ℕ)
-invertedOf (inverted.Inverse r) = given (some r)
+invertedOf (inverted.Inverse b) = given (some b)
 invertedOf inverted.None = given none
-invertedOf (inverted.Refused k) = refused k
+invertedOf (inverted.Refused r) = refused (asRefusal r)
 
 abbrev pub orderedOf : Ordered → Answer ℕ
 orderedOf (ordered.Degree d) = given d
-orderedOf (ordered.Refused k) = refused k
+orderedOf (ordered.Refused r) = refused (asRefusal r)
 
 abbrev pub imagedOf : Imaged → Answer (Unit {0})
 imagedOf imaged.Written = given tt
-imagedOf (imaged.Refused k) = refused k
+imagedOf (imaged.Refused r) = refused (asRefusal r)
 
 abbrev pub countedAs : Standing → Counts → ℕ → Outcome
 countedAs s c w = record { standing = s; degree = c .degree; taken = c .taken; spent = c .spent; witness = w }
@@ -39,13 +40,13 @@ countedAs s c w = record { standing = s; degree = c .degree; taken = c .taken; s
 abbrev pub stoodOf : Stood → Answer Outcome
 stoodOf (stood.Proved c) = given (countedAs proved c 0)
 stoodOf (stood.Short c w) = given (countedAs short c w)
-stoodOf (stood.Refused k) = refused k
+stoodOf (stood.Refused r) = refused (asRefusal r)
 
 abbrev pub chainedOf : Chained → Answer ℕ
 chainedOf (chained.Stages k) = given k
-chainedOf (chained.Refused k) = refused k
+chainedOf (chained.Refused r) = refused (asRefusal r)
 
 abbrev pub periodedOf : Perioded → Answer (Option ℕ)
 periodedOf (perioded.Least t) = given (some t)
 periodedOf perioded.Never = given none
-periodedOf (perioded.Refused k) = refused k
+periodedOf (perioded.Refused r) = refused (asRefusal r)

@@ -1,5 +1,5 @@
-// The calls, as a customer makes them. Every call answers for all inputs: what is wrong is refused by number, in the order of the refusal table, and
-// a refused call changes no byte lent to it.
+// The calls, as a customer makes them. Every call answers for all inputs: what is wrong is refused with its reason, in the order of the refusal table,
+// and a refused call changes no byte lent to it.
 ghost use mathlib.Core.Path.{_≡_};
 ghost use Prim.Native.Nat.{_≤_};
 ghost use lib.ListN.{length};
@@ -7,22 +7,24 @@ ghost use Rattle.meaning.specs.Bytes.{write};
 ghost use Rattle.meaning.specs.Calls.{InverseCall, OrderCall, ImageCall, StandCall, ChainCall, PeriodCall};
 ghost use Rattle.calls.specs.Answers.{invertedOf, orderedOf, imagedOf, stoodOf, chainedOf, periodedOf};
 use period::Returns;
+use refusals::Checked;
+use refusals::Reason;
 
 // 0 has no inverse.
 pub enum Inverted {
     Inverse(u8),
     None,
-    Refused(u8),
+    Refused(Reason),
 }
 
 pub enum Ordered {
     Degree(usize),
-    Refused(u8),
+    Refused(Reason),
 }
 
 pub enum Imaged {
     Written,
-    Refused(u8),
+    Refused(Reason),
 }
 
 // What a stand counts: the polynomial's degree, the rows taken, the products spent.
@@ -36,18 +38,18 @@ pub struct Counts {
 pub enum Stood {
     Proved(Counts),
     Short(Counts, usize),
-    Refused(u8),
+    Refused(Reason),
 }
 
 pub enum Chained {
     Stages(usize),
-    Refused(u8),
+    Refused(Reason),
 }
 
 pub enum Perioded {
     Least(u32),
     Never,
-    Refused(u8),
+    Refused(Reason),
 }
 
 // The bytes of `from` at the front of a buffer.
@@ -63,9 +65,8 @@ fn put(from: &[u8], out: &mut [u8])
 pub fn inverse(p: u32, a: u32) -> Inverted
     ensures { λ r. ⌜ InverseCall p a (invertedOf r) ⌝ }
 {
-    let bad = refusals::of_inverse(p, a);
-    if bad != 0 {
-        return Inverted::Refused(bad);
+    if let Checked::Refused(reason) = refusals::of_inverse(p, a) {
+        return Inverted::Refused(reason);
     }
     if a == 0 {
         return Inverted::None;
@@ -77,9 +78,8 @@ pub fn inverse(p: u32, a: u32) -> Inverted
 pub fn order(p: u32, n: usize, m: &[u8], v: &[u8], out: &mut [u8]) -> Ordered
     ensures { λ r. ⌜ OrderCall p n (now (m .entry)) (now (v .entry)) (now (out .entry)) (orderedOf r) (now (out .exit)) ⌝ }
 {
-    let bad = refusals::of_order(p, n, m, v, out);
-    if bad != 0 {
-        return Ordered::Refused(bad);
+    if let Checked::Refused(reason) = refusals::of_order(p, n, m, v, out) {
+        return Ordered::Refused(reason);
     }
     let mut kept_rows = [0u8; slots::KEPT_ROOM];
     let f = spin::spin(p as u8, n, m, v, &mut kept_rows, 0);
@@ -93,9 +93,8 @@ pub fn order(p: u32, n: usize, m: &[u8], v: &[u8], out: &mut [u8]) -> Ordered
 pub fn image(p: u32, n: usize, m: &[u8], v: &[u8], f: &[u8], out: &mut [u8]) -> Imaged
     ensures { λ r. ⌜ ImageCall p n (now (m .entry)) (now (v .entry)) (now (f .entry)) (now (out .entry)) (imagedOf r) (now (out .exit)) ⌝ }
 {
-    let bad = refusals::of_image(p, n, m, v, f, out);
-    if bad != 0 {
-        return Imaged::Refused(bad);
+    if let Checked::Refused(reason) = refusals::of_image(p, n, m, v, f, out) {
+        return Imaged::Refused(reason);
     }
     matrix::image(p as u8, m, f, v, &mut out[..n]);
     Imaged::Written
@@ -115,9 +114,8 @@ pub fn stand(
 ) -> Stood
     ensures { λ r. ⌜ StandCall p n (now (m .entry)) (now (cs .entry)) allowance (now (poly .entry), now (image .entry)) (stoodOf r) (now (poly .exit), now (image .exit)) ⌝ }
 {
-    let bad = refusals::of_stand(p, n, m, cs, poly, image);
-    if bad != 0 {
-        return Stood::Refused(bad);
+    if let Checked::Refused(reason) = refusals::of_stand(p, n, m, cs, poly, image) {
+        return Stood::Refused(reason);
     }
     let field = p as u8;
     let mut kept_rows = [0u8; slots::KEPT_ROOM];
@@ -152,9 +150,8 @@ pub fn chain(
 ) -> Chained
     ensures { λ r. ⌜ ChainCall p n (now (m .entry)) (now (cs .entry)) (now (product .entry), now (stages .entry)) (chainedOf r) (now (product .exit), now (stages .exit)) ⌝ }
 {
-    let bad = refusals::of_chain(p, n, m, cs, product, stages);
-    if bad != 0 {
-        return Chained::Refused(bad);
+    if let Checked::Refused(reason) = refusals::of_chain(p, n, m, cs, product, stages) {
+        return Chained::Refused(reason);
     }
     let links = stages::link(p as u8, n, m, cs);
     let f = links.product;
@@ -171,9 +168,8 @@ pub fn chain(
 pub fn period(p: u32, n: usize, m: &[u8]) -> Perioded
     ensures { λ r. ⌜ PeriodCall p n (now (m .entry)) (periodedOf r) ⌝ }
 {
-    let bad = refusals::of_period(p, n, m);
-    if bad != 0 {
-        return Perioded::Refused(bad);
+    if let Checked::Refused(reason) = refusals::of_period(p, n, m) {
+        return Perioded::Refused(reason);
     }
     match period::period(p as u8, n, m) {
         Returns::Least(t) => Perioded::Least(t),

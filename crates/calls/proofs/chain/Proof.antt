@@ -1,6 +1,6 @@
 -- `calls::chain` meets its contract: where the refusal is none, the inputs are sound; the stages come from `stages`, and their product and their
 -- record are put to the front of their buffers. Assumes nothing.
-use mathlib.Core.Path.{_≡_, sym, _∙_}
+use mathlib.Core.Path.{_≡_, sym, ap, _∙_}
 use mathlib.Core.Option.{none}
 use Prim.Native.Nat.{_+_, _≤_}
 use native.Mathlib.Omega.{arith}
@@ -12,21 +12,23 @@ use Rattle.meaning.proofs.Refusal.{chain-sound}
 use Rattle.meaning.proofs.Called.{refused-by, given-by}
 use Rattle.meaning.specs.Bounds.{widest, coefficients}
 use Rattle.meaning.specs.Chain.{stageRoom}
-use Rattle.refusals.proofs.Laws.{some-number, none-number}
+use Rattle.refusals.specs.Reasons.{checkedOf}
 use Rattle.calls.proofs.Laws.{chain-written}
 use Rattle.calls.proofs.chain.Statement.{statement}
 use Rattle.calls.proofs.chain.Tie as tie
 
-abbrev start : tie.Else1 → tie.Start
-start c = c .before .before .before .before .before .before .before .before
+abbrev start : tie.After-enum-told → tie.Start
+start c = c .before .before .before .before .before .before .before .before .before
 
-taken : (c : tie.Else1) → let x = start c .args in
+taken : (c : tie.After-enum-told) → let x = start c .args in
     chainRefusal (x .p) (x .n) (x .m .now) (x .cs .now) (x .product .now) (x .stages .now) ≡ none
-unfolding chainRefusal
-taken c = none-number _ (omega arith) (sym (c .if1 .left) ∙ c .before .of-chain .ensures)
+taken c = sym (c .before .before .of-chain .ensures) ∙ ap checkedOf (c .enum-told .given .1)
 
 of-chain-requires : tie.Need-of-chain-requires
 of-chain-requires c κs = search needs
+
+enum-known-reason : tie.Need-enum-known-reason
+enum-known-reason c = search needs
 
 same-length : tie.Need-same-length
 same-length c = search needs
@@ -35,7 +37,10 @@ same-length-2 : tie.Need-same-length-2
 same-length-2 c = search needs
 
 returns : tie.Need-returns
-returns c = refused-by (some-number _ (c .before .of-chain .ensures) (c .if1 .taken))
+returns c = refused-by (sym (c .before .before .before .of-chain .ensures) ∙ ap checkedOf (c .before .reason .given .1))
+
+enum-told : tie.Need-enum-told
+enum-told c = search needs
 
 cast-link : tie.Need-cast-link
 cast-link c = omega (arith, chain-sound _ _ _ _ _ _ (taken c))
@@ -98,9 +103,11 @@ chain-spec =
     tie.close
     (tie.spec
     of-chain-requires
+    enum-known-reason
     same-length
     same-length-2
     returns
+    enum-told
     cast-link
     link-requires
     add-size

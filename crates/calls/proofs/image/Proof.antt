@@ -1,6 +1,6 @@
 -- `calls::image` meets its contract: where the refusal is none, the inputs are sound, and the worker writes the front of the buffer.
 -- Assumes nothing.
-use mathlib.Core.Path.{_≡_, sym, _∙_}
+use mathlib.Core.Path.{_≡_, sym, ap, _∙_}
 use mathlib.Core.Option.{none}
 use Prim.Native.Nat.{_≤_}
 use native.Mathlib.Omega.{arith}
@@ -13,25 +13,30 @@ use Rattle.meaning.proofs.Refusal.{image-sound}
 use Rattle.meaning.proofs.Called.{refused-by, given-by}
 use Rattle.meaning.proofs.Written.{front-write}
 use Rattle.meaning.specs.Bounds.{widest}
-use Rattle.refusals.proofs.Laws.{some-number, none-number}
+use Rattle.refusals.specs.Reasons.{checkedOf}
 use Rattle.calls.proofs.image.Statement.{statement}
 use Rattle.calls.proofs.image.Tie as tie
 
-abbrev start : tie.Else1 → tie.Start
-start c = c .before .before .before .before .before .before .before
+abbrev start : tie.After-enum-told → tie.Start
+start c = c .before .before .before .before .before .before .before .before
 
-taken : (c : tie.Else1) → let x = start c .args in imageRefusal (x .p) (x .n) (x .m .now) (x .v .now) (x .f .now) (x .out .now) ≡ none
-unfolding imageRefusal
-taken c = none-number _ (omega arith) (sym (c .if1 .left) ∙ c .before .of-image .ensures)
+taken : (c : tie.After-enum-told) → let x = start c .args in imageRefusal (x .p) (x .n) (x .m .now) (x .v .now) (x .f .now) (x .out .now) ≡ none
+taken c = sym (c .before .before .of-image .ensures) ∙ ap checkedOf (c .enum-told .given .1)
 
 of-image-requires : tie.Need-of-image-requires
 of-image-requires c κs = search needs
+
+enum-known-reason : tie.Need-enum-known-reason
+enum-known-reason c = search needs
 
 same-length : tie.Need-same-length
 same-length c = search needs
 
 returns : tie.Need-returns
-returns c = refused-by (some-number _ (c .before .of-image .ensures) (c .if1 .taken))
+returns c = refused-by (sym (c .before .before .before .of-image .ensures) ∙ ap checkedOf (c .before .reason .given .1))
+
+enum-told : tie.Need-enum-told
+enum-told c = search needs
 
 cast-image : tie.Need-cast-image
 cast-image c = omega (arith, image-sound _ _ _ _ _ _ (taken c))
@@ -70,8 +75,10 @@ image-spec =
     tie.close
     (tie.spec
     of-image-requires
+    enum-known-reason
     same-length
     returns
+    enum-told
     cast-image
     slice-relend-prefix-image
     slice-aggregate-image

@@ -1,6 +1,6 @@
 -- `calls::order` meets its contract: where the refusal is none, the inputs are sound; spun over no rows, the row's relative order is its order,
 -- and its first n + 1 coefficients are put to the front of the buffer. Assumes nothing.
-use mathlib.Core.Path.{_≡_, sym, _∙_}
+use mathlib.Core.Path.{_≡_, sym, ap, _∙_}
 use mathlib.Core.Option.{none}
 use Prim.Native.Nat.{_+_, _≤_}
 use native.Mathlib.Omega.{arith}
@@ -12,26 +12,31 @@ use Rattle.meaning.proofs.Refusal.{order-sound}
 use Rattle.meaning.proofs.Called.{refused-by, given-by}
 use Rattle.meaning.specs.Bounds.{widest, coefficients}
 use Rattle.spin.proofs.Laws.{before-empty, spinned-order}
-use Rattle.refusals.proofs.Laws.{some-number, none-number}
+use Rattle.refusals.specs.Reasons.{checkedOf}
 use Rattle.calls.proofs.Laws.{order-written}
 use Rattle.calls.proofs.order.Statement.{statement}
 use Rattle.calls.proofs.order.Tie as tie
 
-abbrev start : tie.Else1 → tie.Start
-start c = c .before .before .before .before .before .before
+abbrev start : tie.After-enum-told → tie.Start
+start c = c .before .before .before .before .before .before .before
 
-taken : (c : tie.Else1) → let x = start c .args in orderRefusal (x .p) (x .n) (x .m .now) (x .v .now) (x .out .now) ≡ none
-unfolding orderRefusal
-taken c = none-number _ (omega arith) (sym (c .if1 .left) ∙ c .before .of-order .ensures)
+taken : (c : tie.After-enum-told) → let x = start c .args in orderRefusal (x .p) (x .n) (x .m .now) (x .v .now) (x .out .now) ≡ none
+taken c = sym (c .before .before .of-order .ensures) ∙ ap checkedOf (c .enum-told .given .1)
 
 of-order-requires : tie.Need-of-order-requires
 of-order-requires c κs = search needs
+
+enum-known-reason : tie.Need-enum-known-reason
+enum-known-reason c = search needs
 
 same-length : tie.Need-same-length
 same-length c = search needs
 
 returns : tie.Need-returns
-returns c = refused-by (some-number _ (c .before .of-order .ensures) (c .if1 .taken))
+returns c = refused-by (sym (c .before .before .before .of-order .ensures) ∙ ap checkedOf (c .before .reason .given .1))
+
+enum-told : tie.Need-enum-told
+enum-told c = search needs
 
 cast-spin : tie.Need-cast-spin
 cast-spin c = omega (arith, order-sound _ _ _ _ _ (taken c))
@@ -81,8 +86,10 @@ order-spec =
     tie.close
     (tie.spec
     of-order-requires
+    enum-known-reason
     same-length
     returns
+    enum-told
     cast-spin
     slice-aggregate-spin
     spin-requires

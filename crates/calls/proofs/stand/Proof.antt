@@ -1,6 +1,6 @@
 -- `calls::stand` meets its contract: where the refusal is none, the inputs are sound; the rows taken and their lcm come from `taken`, its test from
 -- `witness`, and the polynomial and the witness's image are put to the front of their buffers. Assumes nothing.
-use mathlib.Core.Path.{_≡_, sym, ap₂, _∙_}
+use mathlib.Core.Path.{_≡_, sym, ap, ap₂, _∙_}
 use mathlib.Core.Option.{none}
 use Prim.Native.Nat.{_+_, _≤_}
 use native.Mathlib.Omega.{arith}
@@ -18,22 +18,24 @@ use Rattle.meaning.proofs.Called.{refused-by, given-by}
 use Rattle.meaning.proofs.Standing.{tested-within, standing-proved, standing-short}
 use Rattle.poly.specs.Polynomial.{po}
 use Rattle.witness.specs.Killing.{Killing}
-use Rattle.refusals.proofs.Laws.{some-number, none-number}
+use Rattle.refusals.specs.Reasons.{checkedOf}
 use Rattle.calls.proofs.Laws.{outcomeOf, stand-written, stand-as}
 use Rattle.calls.proofs.stand.Statement.{statement}
 use Rattle.calls.proofs.stand.Tie as tie
 use Rattle.algebra.proofs.Orders.{below-take}
 
-abbrev start : tie.Else1 → tie.Start
-start c = c .before .before .before .before .before .before .before .before
+abbrev start : tie.After-enum-told → tie.Start
+start c = c .before .before .before .before .before .before .before .before .before
 
-taken : (c : tie.Else1) → let x = start c .args in
+taken : (c : tie.After-enum-told) → let x = start c .args in
     standRefusal (x .p) (x .n) (x .m .now) (x .cs .now) (x .poly .now) (x .image .now) ≡ none
-unfolding standRefusal
-taken c = none-number _ (omega arith) (sym (c .if1 .left) ∙ c .before .of-stand .ensures)
+taken c = sym (c .before .before .of-stand .ensures) ∙ ap checkedOf (c .enum-told .given .1)
 
 of-stand-requires : tie.Need-of-stand-requires
 of-stand-requires c κs = search needs
+
+enum-known-reason : tie.Need-enum-known-reason
+enum-known-reason c = search needs
 
 same-length : tie.Need-same-length
 same-length c = search needs
@@ -42,13 +44,16 @@ same-length-2 : tie.Need-same-length-2
 same-length-2 c = search needs
 
 returns : tie.Need-returns
-returns c = refused-by (some-number _ (c .before .of-stand .ensures) (c .if1 .taken))
+returns c = refused-by (sym (c .before .before .before .of-stand .ensures) ∙ ap checkedOf (c .before .reason .given .1))
+
+enum-told : tie.Need-enum-told
+enum-told c = search needs
 
 cast-field : tie.Need-cast-field
 cast-field c = omega (arith, stand-sound _ _ _ _ _ _ (taken c))
 
 -- the refusal that was none, from the rows taken, and these from the witness
-abbrev passed-on : tie.After-take-rows → tie.Else1
+abbrev passed-on : tie.After-take-rows → tie.After-enum-told
 passed-on c = c .before .before
 
 abbrev gathered : tie.After-witness → tie.After-take-rows
@@ -181,9 +186,11 @@ stand-spec =
     tie.close
     (tie.spec
     of-stand-requires
+    enum-known-reason
     same-length
     same-length-2
     returns
+    enum-told
     cast-field
     slice-aggregate-take-rows
     take-rows-requires

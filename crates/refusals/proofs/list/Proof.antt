@@ -1,38 +1,37 @@
--- `refusals::list` meets its contract: a number of tests 1 to 3 is given on, and after them the earlier of tests 4 and 5. Assumes nothing.
-use mathlib.Core.Path.{_≡_, sym, ap₂, _∙_}
+-- `refusals::list` meets its contract: what tests 1 to 3 refuse is refused, and after them the first of the others decides. Assumes nothing.
+use mathlib.Core.Path.{_≡_, sym, _∙_}
 use mathlib.Core.List.{[], _∷_}
 use mathlib.Core.Option.{none}
 use native.Mathlib.Omega.{arith}
+use Rattle.meaning.specs.Refusal.{refuse, noPrime, noSize, noMatrix, first}
+use Rattle.meaning.proofs.Refusal.{first-past, size-told}
+use Rattle.refusals.proofs.Laws.{one, earlier-join, refused-on, passed}
 use borrow.Author.Needs.{needs}
-use Rattle.meaning.specs.Refusal.{noPrime, noSize, noMatrix, first}
-use Rattle.refusals.specs.Numbers.{earlier}
-use Rattle.meaning.proofs.Refusal.{first-front, size-told}
-use Rattle.refusals.proofs.Laws.{number-some, some-number, none-number, list-number}
 use Rattle.refusals.proofs.list.Statement.{statement}
 use Rattle.refusals.proofs.list.Tie as tie
 
-abbrev start : tie.Else1 → tie.Start
-start c = c .before .before .before .before
-
 -- tests 1 to 3 do not apply
-cleared : (c : tie.Else1) → let x = start c .args in first ((1, noPrime (x .p)) ∷ (2, noSize (x .n)) ∷ (3, noMatrix (x .n) (x .m .now)) ∷ []) ≡ none
-cleared c = none-number _ (omega arith) (sym (c .if1 .left) ∙ c .before .shape .ensures)
+cleared : (c : tie.After-enum-told) → let x = c .before .before .before .before .before .args in
+    first (refuse 1 (noPrime (x .p)) ∷ refuse 2 (noSize (x .n)) ∷ refuse 3 (noMatrix (x .n) (x .m .now)) ∷ []) ≡ none
+cleared c = passed _ (c .before .before .shape .ensures) (c .enum-told .given .1)
 
 shape-requires : tie.Need-shape-requires
 shape-requires c κs = search needs
 
-returns : tie.Need-returns
-returns c =
-    number-some _ (first-front _ _ (some-number _ (c .before .shape .ensures) (c .if1 .taken)))
+enum-known-reason : tie.Need-enum-known-reason
+enum-known-reason c = search needs
+
+enum-told : tie.Need-enum-told
+enum-told c = search needs
 
 candidates-requires : tie.Need-candidates-requires
 candidates-requires c κs = omega (arith, size-told _ _ _ (cleared c))
 
-entries-requires : tie.Need-entries-requires
-entries-requires c κs = search needs
+matrix-entry-requires : tie.Need-matrix-entry-requires
+matrix-entry-requires c κs = omega (arith, size-told _ _ _ (cleared (c .before)))
 
-entries-requires-2 : tie.Need-entries-requires-2
-entries-requires-2 c κs = search needs
+row-entry-requires : tie.Need-row-entry-requires
+row-entry-requires c κs = omega (arith, size-told _ _ _ (cleared (c .before .before)))
 
 earlier-requires : tie.Need-earlier-requires
 earlier-requires c κs = search needs
@@ -40,23 +39,27 @@ earlier-requires c κs = search needs
 earlier-requires-2 : tie.Need-earlier-requires-2
 earlier-requires-2 c κs = search needs
 
+returns : tie.Need-returns
+returns c = refused-on _ _ (c .before .before .before .shape .ensures) (c .before .reason .given .1)
+
 returns-2 : tie.Need-returns-2
 returns-2 c =
     let E = c .before in
-    let R = E .before .before .before in
-    c .earlier2 .ensures
-    ∙ ap₂ earlier (R .candidates .ensures) (E .earlier .ensures ∙ ap₂ earlier (E .before .before .entries .ensures) (E .before .entries2 .ensures))
-    ∙ sym (list-number _ _ _ _ (cleared (R .before)))
+    let entry = earlier-join (_ ∷ []) (_ ∷ []) (E .earlier .ensures) (one (E .before .before .matrix-entry .ensures)) (one (E .before .row-entry .ensures)) in
+    earlier-join (_ ∷ []) _ (c .earlier2 .ensures) (one (E .before .before .before .candidates .ensures)) entry
+    ∙ sym (first-past _ _ (cleared (E .before .before .before .before)))
 
 pub list-spec : {M : Type 1} → statement M
 list-spec =
     tie.close
     (tie.spec
     shape-requires
-    returns
+    enum-known-reason
+    enum-told
     candidates-requires
-    entries-requires
-    entries-requires-2
+    matrix-entry-requires
+    row-entry-requires
     earlier-requires
     earlier-requires-2
+    returns
     returns-2)

@@ -1,23 +1,24 @@
--- `refusals::of_inverse` meets its contract: the earlier of tests 1 and 5. Assumes nothing.
-use mathlib.Core.Path.{sym, ap₂, _∙_}
+-- `refusals::of_inverse` meets its contract: the earlier of tests 1 and 11. Assumes nothing.
+use mathlib.Core.List.{[], _∷_}
+use Rattle.meaning.specs.Refusal.{inverseRefusal}
+use Rattle.refusals.proofs.Laws.{one, earlier-join}
 use borrow.Author.Needs.{needs}
-use Rattle.refusals.specs.Numbers.{earlier}
-use Rattle.refusals.proofs.Laws.{inverse-number}
 use Rattle.refusals.proofs.of_inverse.Statement.{statement}
 use Rattle.refusals.proofs.of_inverse.Tie as tie
 
 prime-requires : tie.Need-prime-requires
 prime-requires c κs = search needs
 
-bound-requires : tie.Need-bound-requires
-bound-requires c κs = search needs
+scalar-requires : tie.Need-scalar-requires
+scalar-requires c κs = search needs
 
 earlier-requires : tie.Need-earlier-requires
 earlier-requires c κs = search needs
 
 returns : tie.Need-returns
+unfolding inverseRefusal
 returns c =
-    c .earlier .ensures ∙ ap₂ earlier (c .before .before .prime .ensures) (c .before .bound .ensures) ∙ sym (inverse-number _ _)
+    earlier-join (_ ∷ []) (_ ∷ []) (c .earlier .ensures) (one (c .before .before .prime .ensures)) (one (c .before .scalar .ensures))
 
 pub of-inverse-spec : {M : Type 1} → statement M
-of-inverse-spec = tie.close (tie.spec prime-requires bound-requires earlier-requires returns)
+of-inverse-spec = tie.close (tie.spec prime-requires scalar-requires earlier-requires returns)
