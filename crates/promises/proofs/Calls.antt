@@ -1,5 +1,5 @@
 -- One result for every input: for each call a permitted answer and buffer content exists, and any two permitted ones agree.
--- That a refusal is its number and nothing else, and is given in no other case, is proved in `Called` of meaning.
+-- That a refusal is the one that the table gives, and is given in no other case, is proved in `Called` of meaning.
 -- What `..-exists` permits is what the functions of Run find, and can be computed: these laws unfold.
 --   inverse-exists, order-exists, image-exists, stand-exists, chain-exists, period-exists   a permitted answer, with what the buffers hold
 --   inverse-unique, order-unique, image-unique, stand-unique, chain-unique, period-unique   any two agree, buffers included

@@ -7,3 +7,4 @@ pub mod Demand3
 pub mod Answers
 pub mod Sheet
 pub mod Wrong
+pub mod Refused

@@ -30,7 +30,9 @@ use Rattle.meaning.specs.Polynomial.{image}
 use Rattle.meaning.specs.Stand.{sum, Standing, proved, short, Outcome, standingOf}
 use Rattle.meaning.specs.Chain.{stageBytes}
 use Rattle.meaning.specs.Period.{longest}
-use Rattle.meaning.specs.Refusal.{allBelow, isPrime, every, noPrime, noSize, noMatrix, noRows, noVector, noPolynomial, badEntry, tooShort, first}
+use Rattle.meaning.specs.Entry.{cellAt, firstBad, badCell}
+use Rattle.meaning.specs.Refusal.{alone, at, refuse, refuseAt, allBelow, isPrime, noPrime, noSize, noMatrix, noRows, noVector, noPolynomial}
+use Rattle.meaning.specs.Refusal.{badEntry, badCoefficient, badScalar, tooShort, first}
 use Rattle.meaning.specs.Refusal.{inverseRefusal, orderRefusal, imageRefusal, standRefusal, chainRefusal, periodRefusal}
 use Rattle.meaning.specs.Calls.{Answer, refused, given}
 use Rattle.promises.specs.Run.{takenOf, witnessOf, ordersOf, standOrders, standTaken, standPoly, standWitness, standOf, chainOf}
@@ -83,7 +85,8 @@ corrected-only (period-reply p n m x) h = ap (period-reply p n m) (period-unique
 
 -- replies with other numbers are other replies; that the numbers tell all apart need not be known
 answerNumbers : {A : Type 0} → (A → List ℕ) → Answer A → List ℕ
-answerNumbers f (refused k) = 0 ∷ k ∷ []
+answerNumbers f (refused (alone k)) = 0 ∷ k ∷ []
+answerNumbers f (refused (at k r c)) = 0 ∷ k ∷ r ∷ c ∷ []
 answerNumbers f (given r) = 1 ∷ f r
 
 standingNumber : Standing → ℕ
@@ -128,12 +131,13 @@ trials-shut (t ∷ ts) q =
 
 trials-run : map runTrial wrongAnswers ≡ map claimTrial wrongAnswers
 unfolding runTrial claimTrial sameReply replyNumbers answerNumbers standingNumber outcomeNumbers optionNumbers corrected called-exists inverse-exists
-    order-exists image-exists stand-exists chain-exists period-exists isPrime allBelow every noPrime noSize noMatrix noRows noVector noPolynomial
-    badEntry tooShort first inverseRefusal orderRefusal imageRefusal standRefusal chainRefusal periodRefusal fp inv-or-𝟘 inv-or-𝟘-steps 𝟘 𝟙 _⊕_ _⊗_ neg
-    isZero unit 0ᵥ _+ᵥ_ _·ᵥ_ comb act coef poly _⊞_ _⊡_ _⊠_ size head monic divide-turn divide gcd-steps gcd lcm lcms lead deeper clear reduce
-    units product long clip tail clipKept newKept spin spinOver orderOf keep chain tab row polyOf rowAt byteRows rows times bytes e write padded
-    image stageBytes sum longest takenOf witnessOf standingOf ordersOf standOrders standTaken standPoly standWitness standOf chainOf same sameRows
-    firstPower nextPower periodFrom periodOf inverseOf wrongInverses wrongOrders wrongImages wrongStands wrongChains wrongPeriods wrongAnswers
+    order-exists image-exists stand-exists chain-exists period-exists cellAt firstBad badCell refuse refuseAt isPrime allBelow noPrime noSize noMatrix
+    noRows noVector noPolynomial badEntry badCoefficient badScalar tooShort first inverseRefusal orderRefusal imageRefusal standRefusal chainRefusal
+    periodRefusal fp inv-or-𝟘 inv-or-𝟘-steps 𝟘 𝟙 _⊕_ _⊗_ neg isZero unit 0ᵥ _+ᵥ_ _·ᵥ_ comb act coef poly _⊞_ _⊡_ _⊠_ size head monic divide-turn
+    divide gcd-steps gcd lcm lcms lead deeper clear reduce units product long clip tail clipKept newKept spin spinOver orderOf keep chain tab row
+    polyOf rowAt byteRows rows times bytes e write padded image stageBytes sum longest takenOf witnessOf standingOf ordersOf standOrders standTaken
+    standPoly standWitness standOf chainOf same sameRows firstPower nextPower periodFrom periodOf inverseOf wrongInverses wrongOrders wrongImages
+    wrongStands wrongChains wrongPeriods wrongAnswers
 trials-run = refl
 
 pub wrong-answers : AllShut wrongAnswers

@@ -4,3 +4,4 @@ pub mod Additions
 pub mod CallRun
 pub mod Sheet
 pub mod Wrong
+pub mod Refused
