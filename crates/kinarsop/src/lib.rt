@@ -1,10 +1,12 @@
 // The face for C and for Rust: each call of the library under a plain name, with numbers, slices (a pointer and a length) and one struct for each
-// answer of several numbers. `refusal` is 0 where the call is answered, else the number of its refusal, and then all else is 0. What a C programmer
-// has to know is in include/kinarsop.h; nothing holds that file to this one but the trials from outside.
+// answer. The number of `refusal` is 0 where the call is answered, else that of its refusal, with the row and the column of a bad entry, and then all
+// else is 0. What a C programmer has to know is in include/kinarsop.h; nothing holds that file to this one but the trials from outside.
 ghost use mathlib.Core.Path.{_≡_};
 ghost use mathlib.Core.List.{[], _∷_};
 ghost use Rattle.meaning.specs.Calls.{given, InverseCall, OrderCall, ImageCall, StandCall, ChainCall, PeriodCall};
 ghost use Rattle.meaning.specs.Sheet.{SheetCall};
+ghost use Rattle.meaning.specs.Refusal.{alone as numbered};
+ghost use Rattle.refusals.specs.Reasons.{numbersOf};
 ghost use Rattle.calls.specs.Answers.{countedAs};
 ghost use Rattle.kinarsop.specs.Face.{Alone, standingIn, inverseRead, orderRead, imageRead, standNumbers, standRead, chainRead, periodRead, sheetRead};
 use calls::Chained;
@@ -14,9 +16,10 @@ use calls::Inverted;
 use calls::Ordered;
 use calls::Perioded;
 use calls::Stood;
+use refusals::Numbers;
 use sheet::Sheeted;
 
-// The refusal of an answered call.
+// The number of an answered call.
 const ANSWERED: u8 = 0;
 
 // What stands in the place of an inverse where there is none. It is above every prime: no inverse is it, and a call that is given it as an entry or a
@@ -25,20 +28,20 @@ const NO_INVERSE: u8 = 255;
 
 #[repr(C)]
 pub struct InverseAnswer {
-    pub refusal: u8,
+    pub refusal: Numbers,
     pub inverse: u8,
 }
 
 #[repr(C)]
 pub struct OrderAnswer {
-    pub refusal: u8,
+    pub refusal: Numbers,
     pub degree: usize,
 }
 
 // The witness is counted from 1, and 0 where the stand is proved.
 #[repr(C)]
 pub struct StandAnswer {
-    pub refusal: u8,
+    pub refusal: Numbers,
     pub proved: bool,
     pub degree: usize,
     pub taken: usize,
@@ -48,21 +51,28 @@ pub struct StandAnswer {
 
 #[repr(C)]
 pub struct ChainAnswer {
-    pub refusal: u8,
+    pub refusal: Numbers,
     pub stages: usize,
 }
 
 // The period is 0 where there is none.
 #[repr(C)]
 pub struct PeriodAnswer {
-    pub refusal: u8,
+    pub refusal: Numbers,
     pub period: u32,
 }
 
 #[repr(C)]
 pub struct SheetAnswer {
-    pub refusal: u8,
+    pub refusal: Numbers,
     pub length: usize,
+}
+
+// The refusal in the answer of a call that is not refused.
+fn answered() -> Numbers
+    ensures { λ r. ⌜ r ≡ numbersOf (numbered 0) ⌝ }
+{
+    refusals::alone(ANSWERED)
 }
 
 // `calls::inverse`.
@@ -73,15 +83,15 @@ pub extern "C" fn kinarsop_inverse(p: u32, a: u32) -> InverseAnswer
 {
     match calls::inverse(p, a) {
         Inverted::Inverse(inverse) => InverseAnswer {
-            refusal: ANSWERED,
+            refusal: answered(),
             inverse: inverse,
         },
         Inverted::None => InverseAnswer {
-            refusal: ANSWERED,
+            refusal: answered(),
             inverse: NO_INVERSE,
         },
-        Inverted::Refused(number) => InverseAnswer {
-            refusal: number,
+        Inverted::Refused(reason) => InverseAnswer {
+            refusal: refusals::as_numbers(reason),
             inverse: 0,
         },
     }
@@ -101,17 +111,17 @@ pub extern "C" fn kinarsop_order(
 {
     match calls::order(p, n, m, v, out) {
         Ordered::Degree(degree) => OrderAnswer {
-            refusal: ANSWERED,
+            refusal: answered(),
             degree: degree,
         },
-        Ordered::Refused(number) => OrderAnswer {
-            refusal: number,
+        Ordered::Refused(reason) => OrderAnswer {
+            refusal: refusals::as_numbers(reason),
             degree: 0,
         },
     }
 }
 
-// `calls::image`: what is returned is the refusal alone, 0 where the image is written to `out`.
+// `calls::image`: what is returned is the refusal alone, its number 0 where the image is written to `out`.
 #[no_mangle]
 pub extern "C" fn kinarsop_image(
     p: u32,
@@ -120,22 +130,23 @@ pub extern "C" fn kinarsop_image(
     v: &[u8],
     f: &[u8],
     out: &mut [u8],
-) -> u8
+) -> Numbers
     ensures { λ r. ⌜ ImageCall p n (now (m .entry)) (now (v .entry)) (now (f .entry)) (now (out .entry)) (imageRead r) (now (out .exit)) ⌝ }
+    ensures { λ r. ⌜ Alone r [] ⌝ }
 {
     match calls::image(p, n, m, v, f, out) {
-        Imaged::Written => ANSWERED,
-        Imaged::Refused(number) => number,
+        Imaged::Written => answered(),
+        Imaged::Refused(reason) => refusals::as_numbers(reason),
     }
 }
 
 // The answer of a stand that is not refused.
 fn counted(proved: bool, counts: Counts, witness: usize) -> StandAnswer
     ensures { λ r. ⌜ standRead r ≡ given (countedAs (standingIn proved) counts witness) ⌝ }
-    ensures { λ r. ⌜ r .refusal ≡ 0 ⌝ }
+    ensures { λ r. ⌜ r .refusal ≡ numbersOf (numbered 0) ⌝ }
 {
     StandAnswer {
-        refusal: ANSWERED,
+        refusal: answered(),
         proved: proved,
         degree: counts.degree,
         taken: counts.taken,
@@ -161,8 +172,8 @@ pub extern "C" fn kinarsop_stand(
     match calls::stand(p, n, m, cs, allowance, poly, image) {
         Stood::Proved(counts) => counted(true, counts, 0),
         Stood::Short(counts, witness) => counted(false, counts, witness),
-        Stood::Refused(number) => StandAnswer {
-            refusal: number,
+        Stood::Refused(reason) => StandAnswer {
+            refusal: refusals::as_numbers(reason),
             proved: false,
             degree: 0,
             taken: 0,
@@ -187,11 +198,11 @@ pub extern "C" fn kinarsop_chain(
 {
     match calls::chain(p, n, m, cs, product, stages) {
         Chained::Stages(count) => ChainAnswer {
-            refusal: ANSWERED,
+            refusal: answered(),
             stages: count,
         },
-        Chained::Refused(number) => ChainAnswer {
-            refusal: number,
+        Chained::Refused(reason) => ChainAnswer {
+            refusal: refusals::as_numbers(reason),
             stages: 0,
         },
     }
@@ -205,15 +216,15 @@ pub extern "C" fn kinarsop_period(p: u32, n: usize, m: &[u8]) -> PeriodAnswer
 {
     match calls::period(p, n, m) {
         Perioded::Least(t) => PeriodAnswer {
-            refusal: ANSWERED,
+            refusal: answered(),
             period: t,
         },
         Perioded::Never => PeriodAnswer {
-            refusal: ANSWERED,
+            refusal: answered(),
             period: 0,
         },
-        Perioded::Refused(number) => PeriodAnswer {
-            refusal: number,
+        Perioded::Refused(reason) => PeriodAnswer {
+            refusal: refusals::as_numbers(reason),
             period: 0,
         },
     }
@@ -227,11 +238,11 @@ pub extern "C" fn kinarsop_sheet(file: &[u8], out: &mut [u8]) -> SheetAnswer
 {
     match sheet::sheet(file, out) {
         Sheeted::Length(length) => SheetAnswer {
-            refusal: ANSWERED,
+            refusal: answered(),
             length: length,
         },
-        Sheeted::Refused(number) => SheetAnswer {
-            refusal: number,
+        Sheeted::Refused(reason) => SheetAnswer {
+            refusal: refusals::as_numbers(reason),
             length: 0,
         },
     }

@@ -66,7 +66,7 @@ stood-given {n = n} {a} {m} {cs} {o = o} {old = old} (stood.Short c u) P q R =
           ∙ ap (λ (o : Outcome). standLines n X (o .standing) o f) z,
       (w .1, v .1),
     )
-stood-given {o = o} (stood.Refused k) P q R = absurd (refused-given k o q)
+stood-given {o = o} (stood.Refused k) P q R = absurd (refused-given _ o q)
 
 -- the stages of the record, whatever stands behind it
 stages-read : {p : ℕ} {X : S p → S p} → Prime p → (seen vs : List (S p)) (st : List (WithDegree p)) → Stages X seen vs st → (rest : List ℕ)
@@ -101,12 +101,12 @@ chained-given {n = n} {count} {stages = stages} {old = old} (chained.Stages k) P
       ap₂ (λ x y. x ++ (record { word = "CHAIN"; numbers = y } ∷ [])) (ap₂ stageLinesIn z l ∙ i .0) (w .0 ∙ ap (λ k. bytes k (coef (product st))) (add-one n)),
       (w .1, subst (StagesIn k) (sym l) (subst (λ j. StagesIn j (stageBytes st ++ rest)) (sym z) (i .1))),
     )
-chained-given {count = count} (chained.Refused k) P q R = absurd (refused-given k count q)
+chained-given {count = count} (chained.Refused k) P q R = absurd (refused-given _ count q)
 
 perioded-given : (r : Perioded) (t : Option ℕ) → periodedOf r ≡ given t → periodedLines r ≡ periodLine t ∷ []
 perioded-given (perioded.Least k) t q = let z : some k ≡ t = cc in ap (λ t. periodLine t ∷ []) z
 perioded-given perioded.Never t q = let z : none ≡ t = cc in ap (λ t. periodLine t ∷ []) z
-perioded-given (perioded.Refused k) t q = absurd (refused-given k t q)
+perioded-given (perioded.Refused k) t q = absurd (refused-given _ t q)
 
 pub record CaseAnswers : Type 0 where
   pub stood : Stood

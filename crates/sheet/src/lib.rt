@@ -17,6 +17,7 @@ use casefile::Reading;
 use meaning::COEFFICIENTS;
 use meaning::STAGE_RECORD;
 use meaning::WIDEST;
+use refusals::Reason;
 use text::Text;
 
 // A buffer of so many bytes has room for every sheet.
@@ -25,7 +26,7 @@ pub const ROOM: usize = text::ROOM;
 // What the call answers: how many bytes the sheet is, or the refusal.
 pub enum Sheeted {
     Length(usize),
-    Refused(u8),
+    Refused(Reason),
 }
 
 // STAGE with the coefficients of a stage and its leading 1.
@@ -181,13 +182,13 @@ fn file_text(file: &[u8]) -> Text
     }
 }
 
-// The sheet of a case file: the lines that the program `stand` prints, at the front of `out`, and how many bytes they are. 6 where `out` has not
-// the room for every sheet.
+// The sheet of a case file: the lines that the program `stand` prints, at the front of `out`, and how many bytes they are. Refused where `out`
+// has not the room for every sheet.
 pub fn sheet(file: &[u8], out: &mut [u8]) -> Sheeted
     ensures { λ r. ⌜ SheetCall (now (file .entry)) (now (out .entry)) (sheetedOf r) (now (out .exit)) ⌝ }
 {
     if out.len() < ROOM {
-        return Sheeted::Refused(6);
+        return Sheeted::Refused(Reason::NoRoom);
     }
     let t = file_text(file);
     let bytes = t.bytes;

@@ -1,15 +1,12 @@
--- `kinarsop_image` meets its contract: the number is read as what `calls::image` answered, and the buffer is as that left it. Assumes nothing.
+-- `kinarsop_image` meets its contract: an answer is read as `calls::image` gave it, and the buffer is as that left it. Assumes nothing.
 use mathlib.Core.Path.{subst}
-use mathlib.Core.List.{List}
+use mathlib.Core.List.{List, []}
 use Prim.Native.Nat.{ℕ}
-use native.Mathlib.Omega.{arith}
-use borrow.Author.Needs.{needs}
-use Rattle.meaning.specs.Calls.{ImageCall}
-use Rattle.meaning.specs.Refusal.{imageRefusal}
-use Rattle.refusals.proofs.Laws.{never-zero}
+use Rattle.meaning.specs.Calls.{Answer, ImageCall}
 use Rattle.calls.specs.Answers.{imagedOf}
 use Rattle.calls.specs.declared.Imaged.{Imaged}
-use Rattle.kinarsop.proofs.AsGiven.{refused-read}
+use Rattle.kinarsop.proofs.AsGiven.{answered-as, answered-alone, refused-as, refused-alone}
+use borrow.Author.Needs.{needs}
 use Rattle.kinarsop.proofs.kinarsop_image.Statement.{statement}
 use Rattle.kinarsop.proofs.kinarsop_image.Tie as tie
 
@@ -17,11 +14,14 @@ use Rattle.kinarsop.proofs.kinarsop_image.Tie as tie
 abbrev start : tie.After-image → tie.Start
 start C = C .before .before .before .before .before .before
 
--- what the call promised of an answer
-abbrev Met : tie.Start → List ℕ → Imaged → Type 0
-Met S new r =
+-- what the call promised of an answer, and so of the one that it gave
+abbrev Meets : tie.Start → List ℕ → Answer (Unit {0}) → Type 0
+Meets S new answer =
     let x = S .args in
-    ImageCall (x .p) (x .n) (x .m .now) (x .v .now) (x .f .now) (x .out .now) (imagedOf r) new
+    ImageCall (x .p) (x .n) (x .m .now) (x .v .now) (x .f .now) (x .out .now) answer new
+
+abbrev Met : tie.Start → List ℕ → Imaged → Type 0
+Met S new r = Meets S new (imagedOf r)
 
 image-requires : tie.Need-image-requires
 image-requires c κs = search needs
@@ -29,25 +29,35 @@ image-requires c κs = search needs
 enum-told : tie.Need-enum-told
 enum-told c = search needs
 
-enum-known-number : tie.Need-enum-known-number
-enum-known-number c = search needs
+answered-requires : tie.Need-answered-requires
+answered-requires c κs = search needs
+
+enum-known-reason : tie.Need-enum-known-reason
+enum-known-reason c = search needs
+
+as-numbers-requires : tie.Need-as-numbers-requires
+as-numbers-requires c κs = search needs
 
 same-length : tie.Need-same-length
 same-length c = search needs
 
 returns : tie.Need-returns
 returns c =
-    let C = c .before .before .before .before in
-    subst (Met (start C) _) (c .enum-told .given .1) (C .image .ensures)
+    let C = c .before .before .before .before .before in
+    let e = c .answered .ensures in
+    let given = subst (Met (start C) _) (c .before .enum-told .given .1) (C .image .ensures) in
+    (answered-as (Meets (start C) _) e given, answered-alone [] e)
 
 same-length-2 : tie.Need-same-length-2
 same-length-2 c = search needs
 
 returns-2 : tie.Need-returns-2
-unfolding imageRefusal
 returns-2 c =
-    let C = c .before .before .before .before .before in
-    refused-read _ _ (never-zero _ (omega arith)) (subst (Met (start C) _) (c .before .number .given .1) (C .image .ensures))
+    let C = c .before .before .before .before .before .before in
+    let q = c .before .before .reason .given .0 .0 in
+    let e = c .as-numbers .ensures in
+    let refused = subst (Met (start C) _) (c .before .before .reason .given .1) (C .image .ensures) in
+    (refused-as q _ (Meets (start C) _) e refused, refused-alone q [] e tt)
 
 pub kinarsop-image-spec : {M : Type 1} → statement M
 kinarsop-image-spec =
@@ -55,7 +65,9 @@ kinarsop-image-spec =
     (tie.spec
     image-requires
     enum-told
-    enum-known-number
+    answered-requires
+    enum-known-reason
+    as-numbers-requires
     same-length
     returns
     same-length-2

@@ -1,13 +1,13 @@
--- `kinarsop_period` meets its contract: an answer is read as `calls::period` gave it; a period is at least 1. Assumes nothing.
+-- `kinarsop_period` meets its contract: an answer is read as `calls::period` gave it. Assumes nothing.
 use mathlib.Core.Path.{refl, subst}
-use native.Mathlib.Omega.{arith}
-use borrow.Author.Needs.{needs}
-use Rattle.meaning.specs.Calls.{PeriodCall}
-use Rattle.meaning.specs.Refusal.{periodRefusal}
-use Rattle.refusals.proofs.Laws.{never-zero}
+use mathlib.Core.List.{[], _∷_}
+use mathlib.Core.Option.{Option}
+use Prim.Native.Nat.{ℕ}
+use Rattle.meaning.specs.Calls.{Answer, PeriodCall}
 use Rattle.calls.specs.Answers.{periodedOf}
 use Rattle.calls.specs.declared.Perioded.{Perioded}
-use Rattle.kinarsop.proofs.AsGiven.{refused-read, least-read}
+use Rattle.kinarsop.proofs.AsGiven.{answered-as, answered-alone, refused-as, refused-alone, least-read}
+use borrow.Author.Needs.{needs}
 use Rattle.kinarsop.proofs.kinarsop_period.Statement.{statement}
 use Rattle.kinarsop.proofs.kinarsop_period.Tie as tie
 
@@ -15,9 +15,14 @@ use Rattle.kinarsop.proofs.kinarsop_period.Tie as tie
 abbrev start : tie.After-period → tie.Start
 start C = C .before .before
 
--- what the call promised of an answer
+-- what the call promised of an answer, and so of the one that it gave
+abbrev Meets : tie.Start → Answer (Option ℕ) → Type 0
+Meets S answer =
+    let x = S .args in
+    PeriodCall (x .p) (x .n) (x .m .now) answer
+
 abbrev Met : tie.Start → Perioded → Type 0
-Met S r = PeriodCall (S .args .p) (S .args .n) (S .args .m .now) (periodedOf r)
+Met S r = Meets S (periodedOf r)
 
 period-requires : tie.Need-period-requires
 period-requires c κs = search needs
@@ -25,32 +30,43 @@ period-requires c κs = search needs
 enum-known-t : tie.Need-enum-known-t
 enum-known-t c = search needs
 
+answered-requires : tie.Need-answered-requires
+answered-requires c κs = search needs
+
 enum-told : tie.Need-enum-told
 enum-told c = search needs
 
-enum-known-number : tie.Need-enum-known-number
-enum-known-number c = search needs
+answered-requires-2 : tie.Need-answered-requires-2
+answered-requires-2 c κs = search needs
+
+enum-known-reason : tie.Need-enum-known-reason
+enum-known-reason c = search needs
+
+as-numbers-requires : tie.Need-as-numbers-requires
+as-numbers-requires c κs = search needs
 
 returns : tie.Need-returns
 returns c =
-    let C = c .before .before .before in
-    let x = start C .args in (
-      least-read (x .p) (x .n) (x .m .now) _ (subst (Met (start C)) (c .before .t .given .1) (C .period .ensures)),
-      λ h. absurd (h refl),
-    )
+    let C = c .before .before .before .before in
+    let x = start C .args in
+    let e = c .answered .ensures in
+    let given = least-read (x .p) (x .n) (x .m .now) _ (subst (Met (start C)) (c .before .before .t .given .1) (C .period .ensures)) in
+    (answered-as (Meets (start C)) e given, answered-alone (_ ∷ []) e)
 
 returns-2 : tie.Need-returns-2
 returns-2 c =
-    let C = c .before .before in
-    (subst (Met (start C)) (c .enum-told .given .1) (C .period .ensures), λ h. absurd (h refl))
+    let C = c .before .before .before in
+    let e = c .answered2 .ensures in
+    let given = subst (Met (start C)) (c .before .enum-told .given .1) (C .period .ensures) in
+    (answered-as (Meets (start C)) e given, answered-alone (_ ∷ []) e)
 
 returns-3 : tie.Need-returns-3
-unfolding periodRefusal
 returns-3 c =
-    let C = c .before .before .before in (
-      refused-read _ _ (never-zero _ (omega arith)) (subst (Met (start C)) (c .before .number .given .1) (C .period .ensures)),
-      λ h. (refl, tt),
-    )
+    let C = c .before .before .before .before in
+    let q = c .before .before .reason .given .0 .0 in
+    let e = c .as-numbers .ensures in
+    let refused = subst (Met (start C)) (c .before .before .reason .given .1) (C .period .ensures) in
+    (refused-as q _ (Meets (start C)) e refused, refused-alone q (0 ∷ []) e (refl, tt))
 
 pub kinarsop-period-spec : {M : Type 1} → statement M
 kinarsop-period-spec =
@@ -58,8 +74,11 @@ kinarsop-period-spec =
     (tie.spec
     period-requires
     enum-known-t
+    answered-requires
     enum-told
-    enum-known-number
+    answered-requires-2
+    enum-known-reason
+    as-numbers-requires
     returns
     returns-2
     returns-3)

@@ -1,14 +1,13 @@
 -- `kinarsop_sheet` meets its contract: an answer is read as `sheet::sheet` gave it, and the buffer is as that left it. Assumes nothing.
 use mathlib.Core.Path.{refl, subst}
-use mathlib.Core.List.{List}
+use mathlib.Core.List.{List, [], _∷_}
 use Prim.Native.Nat.{ℕ}
-use native.Mathlib.Omega.{arith}
-use borrow.Author.Needs.{needs}
+use Rattle.meaning.specs.Calls.{Answer}
 use Rattle.meaning.specs.Sheet.{SheetCall}
-use Rattle.refusals.proofs.Laws.{never-zero}
 use Rattle.sheet.specs.Answers.{sheetedOf}
 use Rattle.sheet.specs.declared.Sheeted.{Sheeted}
-use Rattle.kinarsop.proofs.AsGiven.{refused-read}
+use Rattle.kinarsop.proofs.AsGiven.{answered-as, answered-alone, refused-as, refused-alone}
+use borrow.Author.Needs.{needs}
 use Rattle.kinarsop.proofs.kinarsop_sheet.Statement.{statement}
 use Rattle.kinarsop.proofs.kinarsop_sheet.Tie as tie
 
@@ -16,9 +15,14 @@ use Rattle.kinarsop.proofs.kinarsop_sheet.Tie as tie
 abbrev start : tie.After-sheet → tie.Start
 start C = C .before .before .before .before
 
--- what the call promised of an answer
+-- what the call promised of an answer, and so of the one that it gave
+abbrev Meets : tie.Start → List ℕ → Answer ℕ → Type 0
+Meets S new answer =
+    let x = S .args in
+    SheetCall (x .file .now) (x .out .now) answer new
+
 abbrev Met : tie.Start → List ℕ → Sheeted → Type 0
-Met S new r = SheetCall (S .args .file .now) (S .args .out .now) (sheetedOf r) new
+Met S new r = Meets S new (sheetedOf r)
 
 sheet-requires : tie.Need-sheet-requires
 sheet-requires c κs = search needs
@@ -26,26 +30,35 @@ sheet-requires c κs = search needs
 enum-known-length : tie.Need-enum-known-length
 enum-known-length c = search needs
 
-enum-known-number : tie.Need-enum-known-number
-enum-known-number c = search needs
+answered-requires : tie.Need-answered-requires
+answered-requires c κs = search needs
+
+enum-known-reason : tie.Need-enum-known-reason
+enum-known-reason c = search needs
+
+as-numbers-requires : tie.Need-as-numbers-requires
+as-numbers-requires c κs = search needs
 
 same-length : tie.Need-same-length
 same-length c = search needs
 
 returns : tie.Need-returns
 returns c =
-    let C = c .before .before .before .before .before in
-    (subst (Met (start C) _) (c .before .length .given .1) (C .sheet .ensures), λ h. absurd (h refl))
+    let C = c .before .before .before .before .before .before in
+    let e = c .answered .ensures in
+    let given = subst (Met (start C) _) (c .before .before .length .given .1) (C .sheet .ensures) in
+    (answered-as (Meets (start C) _) e given, answered-alone (_ ∷ []) e)
 
 same-length-2 : tie.Need-same-length-2
 same-length-2 c = search needs
 
 returns-2 : tie.Need-returns-2
 returns-2 c =
-    let C = c .before .before .before .before .before in (
-      refused-read _ _ (never-zero _ (omega arith)) (subst (Met (start C) _) (c .before .number .given .1) (C .sheet .ensures)),
-      λ h. (refl, tt),
-    )
+    let C = c .before .before .before .before .before .before in
+    let q = c .before .before .reason .given .0 .0 in
+    let e = c .as-numbers .ensures in
+    let refused = subst (Met (start C) _) (c .before .before .reason .given .1) (C .sheet .ensures) in
+    (refused-as q _ (Meets (start C) _) e refused, refused-alone q (0 ∷ []) e (refl, tt))
 
 pub kinarsop-sheet-spec : {M : Type 1} → statement M
 kinarsop-sheet-spec =
@@ -53,7 +66,9 @@ kinarsop-sheet-spec =
     (tie.spec
     sheet-requires
     enum-known-length
-    enum-known-number
+    answered-requires
+    enum-known-reason
+    as-numbers-requires
     same-length
     returns
     same-length-2
