@@ -19,6 +19,8 @@ use Rattle.meaning.specs.Calls.{given, StandCall}
 use Rattle.promises.specs.Additions.{FromBounds}
 use Rattle.promises.specs.CallRun.{Buffers, shown, CallsEnd}
 use Rattle.promises.proofs.Answers.{answer-minimal, answer-short, answer-more, answer-reordered, calls-end}
+use Rattle.refusals.specs.Reasons.{asRefusal}
+use Rattle.refusals.specs.declared.Reason.{Reason}
 use Rattle.calls.specs.Answers.{stoodOf}
 use Rattle.answers.specs.Runs.{StoodEnd}
 use Rattle.calls.specs.declared.Counts.{Counts}
@@ -45,14 +47,14 @@ stood-short c w A =
 module _ {p n : ℕ} {m cs : List ℕ} {a b : ℕ} {old new old′ new′ : Buffers} (ds : List ℕ) (l : a ≤ b) where
   -- a proved polynomial stays, byte for byte
   pub stood-kept : (c : Counts) (s : Stood) → StandCall p n m cs a old (stoodOf (stood.Proved c)) new → StandCall p n m (cs ++ ds) b old′ (stoodOf s) new′
-      → ((k : ℕ) → ¬ (s ≡ stood.Refused k)) → (d : Counts) × (s ≡ stood.Proved d) × (c .degree ≡ d .degree) × (take (suc n) (new .0) ≡ take (suc n) (new′ .0))
+      → ((q : Reason) → ¬ (s ≡ stood.Refused q)) → (d : Counts) × (s ≡ stood.Proved d) × (c .degree ≡ d .degree) × (take (suc n) (new .0) ≡ take (suc n) (new′ .0))
   stood-kept c (stood.Proved d) A B h = let (x, y, z) = answer-more ds l A B .1 refl in (d, refl, y, z)
   stood-kept c (stood.Short d w) A B h = absurd (proved-short (sym (answer-more ds l A B .1 refl .0)))
   stood-kept c (stood.Refused k) A B h = absurd (h k refl)
 
   -- and a short one divides the new one
   pub stood-divides : (c : Counts) (w : ℕ) (s : Stood) → StandCall p n m cs a old (stoodOf (stood.Short c w)) new
-      → StandCall p n m (cs ++ ds) b old′ (stoodOf s) new′ → ((k : ℕ) → ¬ (s ≡ stood.Refused k)) → shown p n new ∣ shown p n new′
+      → StandCall p n m (cs ++ ds) b old′ (stoodOf s) new′ → ((q : Reason) → ¬ (s ≡ stood.Refused q)) → shown p n new ∣ shown p n new′
   stood-divides c w (stood.Proved d) A B h = answer-more ds l A B .0
   stood-divides c w (stood.Short d u) A B h = answer-more ds l A B .0
   stood-divides c w (stood.Refused k) A B h = absurd (h k refl)
@@ -76,7 +78,7 @@ stood-ends {p} {n} {m} {cs} {a} {old} {new} r {o} F g A =
       some-run = ends-stood g (E .some-run);
       few = λ R. E .few (run-calls g F R .2);
       full = λ R z. let (u, q, C) = run-calls g F R in proved-counts _ u q (E .full C z);
-      unrefused = λ R j z. let (u, q, C) = run-calls g F R in refused-given j u (sym (ap stoodOf z) ∙ q);
+      unrefused = λ R j z. let (u, q, C) = run-calls g F R in refused-given (asRefusal j) u (sym (ap stoodOf z) ∙ q);
       finishes = λ R. let (u, q, C) = run-calls g F R in ends-stood q (E .finishes C);
     }
   where

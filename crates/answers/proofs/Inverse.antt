@@ -17,7 +17,7 @@ use Rattle.calls.specs.declared.Inverted.the-variants as inverted
 use Rattle.kinarsop.specs.Face.{noInverse, inverseIn, inverseRead}
 use Rattle.kinarsop.specs.declared.InverseAnswer.{InverseAnswer}
 use Rattle.answers.proofs.Unique.{inverted-only}
-use Rattle.answers.proofs.Face.{read-only, inverseIn-only, inverseIn-some}
+use Rattle.answers.proofs.Face.{read-answered, inverseIn-only, inverseIn-some}
 
 pub inverted-zero : (r : Inverted) {p : ℕ} → isPrime p ≡ true → InverseCall p 0 (invertedOf r) → r ≡ inverted.None
 inverted-zero r P C = inverted-only r inverted.None (inverse-zero P C)
@@ -28,14 +28,14 @@ inverted-nonzero r P g h C =
     let (b, e, I) = inverse-nonzero P g h C in
     (b, inverted-only r (inverted.Inverse b) e, I)
 
-pub face-zero : (r : InverseAnswer) {p : ℕ} → isPrime p ≡ true → InverseCall p 0 (inverseRead r) → (r .refusal ≡ 0) × (r .inverse ≡ noInverse)
+pub face-zero : (r : InverseAnswer) {p : ℕ} → isPrime p ≡ true → InverseCall p 0 (inverseRead r) → (r .refusal .number ≡ 0) × (r .inverse ≡ noInverse)
 face-zero r P C =
-    let (z, h) = read-only (r .refusal) 0 _ (inverseIn noInverse) (inverse-zero P C) in
-    (z, inverseIn-only (r .inverse) noInverse (h z))
+    let (z, h) = read-answered (r .refusal) _ (inverseIn noInverse) (inverse-zero P C) in
+    (z, inverseIn-only (r .inverse) noInverse h)
 
 pub face-nonzero : (r : InverseAnswer) {p a : ℕ} → isPrime p ≡ true → 0 < a → a < p → InverseCall p a (inverseRead r)
-    → (r .refusal ≡ 0) × Inverts p a (r .inverse)
+    → (r .refusal .number ≡ 0) × Inverts p a (r .inverse)
 face-nonzero r {p} {a} P g h C =
     let (b, e, I) = inverse-nonzero P g h C in
-    let (z, k) = read-only (r .refusal) 0 _ (some b) e in
-    (z, subst (Inverts p a) (sym (inverseIn-some (r .inverse) b (k z))) I)
+    let (z, k) = read-answered (r .refusal) _ (some b) e in
+    (z, subst (Inverts p a) (sym (inverseIn-some (r .inverse) b k)) I)

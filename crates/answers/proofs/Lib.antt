@@ -1,6 +1,7 @@
 pub mod Unique
 pub mod Face
 pub mod Inverse
+pub mod Refused
 pub mod Runs
 pub mod Demands
 pub mod Sheet

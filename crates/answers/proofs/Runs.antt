@@ -16,6 +16,7 @@ use Rattle.meaning.proofs.Unique.{outcome-path}
 use Rattle.promises.specs.Additions.{FromBounds, added}
 use Rattle.promises.specs.CallRun.{Buffers, shown, LongEnough, CallRun, first, again, EndsProved}
 use Rattle.promises.proofs.Answers.{answer-stand, answer-room, calls-again}
+use Rattle.refusals.specs.Reasons.{asRefusal}
 use Rattle.calls.specs.Answers.{stoodOf}
 use Rattle.answers.specs.Runs.{StoodRun, stood-first, stood-again, StoodProved}
 use Rattle.calls.specs.declared.Counts.{Counts}
@@ -42,7 +43,7 @@ stood-outcome {p} {n} {m} {new = new} {o = o} A = go (o .standing) refl
 pub proved-counts : (s : Stood) (u : Outcome) → stoodOf s ≡ given u → u .standing ≡ proved → (c : Counts) × (s ≡ stood.Proved c)
 proved-counts (stood.Proved c) u z q = (c, refl)
 proved-counts (stood.Short c w) u z q = absurd (proved-short (sym (ap (λ o. o .standing) (given-only _ u z) ∙ q)))
-proved-counts (stood.Refused j) u z q = absurd (refused-given j u z)
+proved-counts (stood.Refused j) u z q = absurd (refused-given (asRefusal j) u z)
 
 -- a run from a first answer r, which gives the outcome o
 module _ {p n : ℕ} {m cs : List ℕ} {a : ℕ} {r : Stood} {o : Outcome} (g : stoodOf r ≡ given o) where
@@ -65,7 +66,7 @@ module _ {p n : ℕ} {m cs : List ℕ} {a : ℕ} {r : Stood} {o : Outcome} (g : 
   stood-turn (stood.Short c w) t {k} {ds} {u} z q R {old} {new} l A =
       let y = ap (λ o. ds ++ bytes {p = p} n (e (o .witness))) (given-only _ u z) in
       subst (λ l. StoodRun p n m a cs r (suc k) l t) y (stood-again old new R l (subst (λ l. StandCall p n m l a old (stoodOf t) new) (sym y) A))
-  stood-turn (stood.Refused j) t {u = u} z q R l A = absurd (refused-given j u z)
+  stood-turn (stood.Refused j) t {u = u} z q R l A = absurd (refused-given (asRefusal j) u z)
 
   -- and a run of calls is one of the code's answers
   calls-run : {k : ℕ} {ds : List ℕ} {u : Outcome} → CallRun p n m a cs o k ds u → (s : Stood) × (stoodOf s ≡ given u) × StoodRun p n m a cs r k ds s

@@ -10,6 +10,7 @@ use Prim.Native.Nat.{ℕ, zero, suc, _-_, _≤_}
 use Rattle.meaning.specs.Bytes.{e, bytes}
 use Rattle.meaning.specs.Calls.{StandCall}
 use Rattle.promises.specs.CallRun.{Buffers, LongEnough}
+use Rattle.refusals.specs.declared.Reason.{Reason}
 use Rattle.calls.specs.Answers.{stoodOf}
 use Rattle.calls.specs.declared.Counts.{Counts}
 use Rattle.calls.specs.declared.Stood.{Stood}
@@ -34,5 +35,5 @@ pub record StoodEnd (p n : ℕ) (m : List ℕ) (a : ℕ) (cs : List ℕ) (r : St
   pub some-run : StoodProved p n m a cs r (n - d)
   pub few : {k : ℕ} {ds : List ℕ} {s : Stood} → StoodRun p n m a cs r k ds s → k ≤ n - d
   pub full : {k : ℕ} {ds : List ℕ} {s : Stood} → StoodRun p n m a cs r k ds s → k ≡ n - d → (c : Counts) × (s ≡ stood.Proved c)
-  pub unrefused : {k : ℕ} {ds : List ℕ} {s : Stood} → StoodRun p n m a cs r k ds s → (j : ℕ) → ¬ (s ≡ stood.Refused j)
+  pub unrefused : {k : ℕ} {ds : List ℕ} {s : Stood} → StoodRun p n m a cs r k ds s → (q : Reason) → ¬ (s ≡ stood.Refused q)
   pub finishes : {k : ℕ} {ds : List ℕ} {s : Stood} → StoodRun p n m a cs r k ds s → StoodProved p n m a ds s (n - d - k)

@@ -41,7 +41,7 @@ fn call(p: u32, n: usize, m: &[u8], cs: &[u8], product: &mut [u8], stages: &mut 
             trial_lines::print(b" stages");
             trial_lines::print_number(count as u64);
         }
-        Chained::Refused(number) => refuse(number),
+        Chained::Refused(reason) => refuse(reason),
     }
     show(product);
     show(stages);

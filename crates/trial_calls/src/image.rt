@@ -38,7 +38,7 @@ fn call(p: u32, n: usize, m: &[u8], v: &[u8], f: &[u8], out: &mut [u8]) {
     let imaged = calls::image(p, n, m, v, f, out);
     match imaged {
         Imaged::Written => trial_lines::print(b" written"),
-        Imaged::Refused(number) => refuse(number),
+        Imaged::Refused(reason) => refuse(reason),
     }
     show(out);
 }

@@ -11,6 +11,6 @@ pub fn answer(line: &[u8]) {
     match inverted {
         Inverted::Inverse(b) => trial_lines::print_byte(b),
         Inverted::None => trial_lines::print(b" none"),
-        Inverted::Refused(number) => refuse(number),
+        Inverted::Refused(reason) => refuse(reason),
     }
 }

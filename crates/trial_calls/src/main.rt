@@ -8,6 +8,7 @@ mod period;
 mod stand;
 
 use libc::STDIN_FILENO;
+use refusals::Reason;
 
 // The number that follows the line's word.
 fn modulus(line: &[u8]) -> u32 {
@@ -19,10 +20,17 @@ fn size(line: &[u8]) -> usize {
     trial_lines::number(trial_lines::group(line, 1)) as usize
 }
 
-// A refusal's number.
-fn refuse(number: u8) {
+// A refusal's number, and where it has one the row and the column of the bad entry.
+fn refuse(reason: Reason) {
+    let numbers = refusals::as_numbers(reason);
     trial_lines::print(b" refused");
-    trial_lines::print_byte(number);
+    trial_lines::print_byte(numbers.number);
+    if numbers.column != 0 {
+        trial_lines::print(b" row");
+        trial_lines::print_number(numbers.row as u64);
+        trial_lines::print(b" column");
+        trial_lines::print_number(numbers.column as u64);
+    }
 }
 
 // A lent buffer, whole.

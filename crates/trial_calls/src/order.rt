@@ -30,7 +30,7 @@ fn call(p: u32, n: usize, m: &[u8], v: &[u8], out: &mut [u8]) {
             trial_lines::print(b" degree");
             trial_lines::print_number(degree as u64);
         }
-        Ordered::Refused(number) => refuse(number),
+        Ordered::Refused(reason) => refuse(reason),
     }
     show(out);
 }

@@ -24,6 +24,6 @@ fn call(p: u32, n: usize, m: &[u8]) {
             trial_lines::print_number(t as u64);
         }
         Perioded::Never => trial_lines::print(b" never"),
-        Perioded::Refused(number) => refuse(number),
+        Perioded::Refused(reason) => refuse(reason),
     }
 }

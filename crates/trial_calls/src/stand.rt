@@ -49,7 +49,7 @@ fn call(line: &[u8], m: &[u8], cs: &[u8], poly: &mut [u8], image: &mut [u8]) {
             trial_lines::print(b" witness");
             trial_lines::print_number(witness as u64);
         }
-        Stood::Refused(number) => refuse(number),
+        Stood::Refused(reason) => refuse(reason),
     }
     show(poly);
     show(image);

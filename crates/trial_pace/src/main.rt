@@ -12,13 +12,14 @@ use meaning::CANDIDATE_ROOM;
 use meaning::COEFFICIENTS;
 use meaning::MATRIX_ROOM;
 use meaning::STAGE_RECORD;
+use refusals::Reason;
 
 // It pays for every list.
 const ALLOWANCE: u32 = meaning::CANDIDATE_ROOM as u32;
 
-fn refuse(number: u8) {
+fn refuse(reason: Reason) {
     trial_lines::print(b"REFUSED");
-    trial_lines::print_byte(number);
+    trial_lines::print_byte(refusals::as_numbers(reason).number);
 }
 
 // What stands behind the mark: the witness, or 0, and the degree.
@@ -41,7 +42,7 @@ fn stand(last: bool, p: u8, n: u8, m: &[u8], cs: &[u8], poly: &mut [u8], image: 
             trial_lines::print(b"STAND SHORT");
             show_stand(witness, counts.degree);
         }
-        Stood::Refused(number) => refuse(number),
+        Stood::Refused(reason) => refuse(reason),
     }
     trial_lines::print_list(poly);
     trial_lines::end_line();
@@ -57,7 +58,7 @@ fn order(last: bool, p: u8, n: u8, m: &[u8], v: &[u8], poly: &mut [u8]) {
             trial_lines::print(b"ORDER");
             trial_lines::print_number(degree as u64);
         }
-        Ordered::Refused(number) => refuse(number),
+        Ordered::Refused(reason) => refuse(reason),
     }
     trial_lines::print_list(poly);
     trial_lines::end_line();
@@ -73,7 +74,7 @@ fn chain(last: bool, p: u8, n: u8, m: &[u8], cs: &[u8], poly: &mut [u8], stages:
             trial_lines::print(b"CHAIN");
             trial_lines::print_number(count as u64);
         }
-        Chained::Refused(number) => refuse(number),
+        Chained::Refused(reason) => refuse(reason),
     }
     trial_lines::print_list(poly);
     trial_lines::end_line();
@@ -90,7 +91,7 @@ fn period(last: bool, p: u8, n: u8, m: &[u8]) {
             trial_lines::print_number(t as u64);
         }
         Perioded::Never => trial_lines::print(b"PERIOD none"),
-        Perioded::Refused(number) => refuse(number),
+        Perioded::Refused(reason) => refuse(reason),
     }
     trial_lines::end_line();
 }

@@ -1,14 +1,11 @@
 -- What the tests of the program tell.
 --   test-prime     the modulus is a prime up to 251
---   test-small     every coefficient is below p
 --   test-nonzero   a polynomial whose size is not 0 is not zero
 --   test-monic     a polynomial whose leading coefficient is 1 is monic
 --   test-room      two monic polynomials whose degrees, less that of their gcd, come to 64 at most have a common multiple of such a degree
 -- Assumes nothing.
 use mathlib.Core.Path.{_≡_, sym, ap, _∙_}
 use mathlib.Core.Bool.{Bool, true}
-use mathlib.Core.List.{List}
-use mathlib.Core.Option.{none}
 use Prim.Native.Nat.{ℕ, _+_, _<_, _≤_}
 use native.Mathlib.Omega.{arith}
 use lib.ListN.{getD}
@@ -20,11 +17,8 @@ use Rattle.algebra.proofs.Field.{fp-one}
 use Rattle.algebra.proofs.Poly.{monic-not-zero}
 use Rattle.algebra.proofs.Gcd.{gcd-from-divisors, lcm-by-gcd, size-none}
 use Rattle.meaning.specs.Refusal.{isPrime}
-use Rattle.meaning.specs.Bytes.{Small}
 use Rattle.meaning.specs.Bounds.{largestPrime, coefficients}
-use Rattle.meaning.proofs.Refusal.{isPrime-prime, badEntry-false}
-use Rattle.rows.specs.Row.{firstBad}
-use Rattle.rows.proofs.FirstBad.{firstBad-none}
+use Rattle.meaning.proofs.Refusal.{isPrime-prime}
 use Rattle.poly.specs.declared.Polynomial.{Polynomial}
 use Rattle.poly.specs.Polynomial.{po, Good}
 use Rattle.division.specs.Division.{IsGcd, Room}
@@ -32,9 +26,6 @@ use Rattle.poly.proofs.Laws.{good-at, good-below, good-size-own}
 
 pub test-prime : {b : Bool} (p : ℕ) → b ≡ isPrime p → b ≡ true → Prime p × (p ≤ largestPrime)
 test-prime p e t = isPrime-prime p (sym e ∙ t)
-
-pub test-small : (p : ℕ) (l : List ℕ) → firstBad p l ≡ none → Small p l
-test-small p l e = badEntry-false p l (firstBad-none p l e)
 
 pub test-nonzero : {p n : ℕ} {f : Polynomial} → Good p f → n ≡ size (po (f .p) f) → ¬ (n ≡ 0) → ¬ (coef (po p f) ≡ 0ᵥ)
 test-nonzero {p} {f = f} G e n z = n (good-size-own G e ∙ size-none (po p f) z)

@@ -5,7 +5,7 @@ use native.Mathlib.Omega.{arith}
 use lib.ListN.{List·getD-eq-default}
 use Rattle.meaning.specs.Bytes.{Small}
 use Rattle.rows.specs.Row.{placeOf}
-use Rattle.trial_parts.proofs.Laws.{test-small}
+use Rattle.meaning.proofs.Entry.{firstBad-none}
 use borrow.Author.Needs.{needs}
 use Rattle.trial_parts.proofs.polynomials.parse.Statement.{statement}
 use Rattle.trial_parts.proofs.polynomials.parse.Tie as tie
@@ -48,7 +48,7 @@ made-requires c κs =
     let F = c .before .before .before .before .before .before .before .before .before .before in
     let l = F .fill .last .1 .0 in
     let none = sym (c .before .before .first-bad .ensures) ∙ ap placeOf (c .enum-told2 .given .1) in
-    let small = subst (λ q. Small q l) (c .before .before .before .before .wide .ensures) (test-small _ l none) in
+    let small = subst (λ q. Small q l) (c .before .before .before .before .wide .ensures) (firstBad-none _ l none) in
     (F .before .before .before .before .pre, (small, (omega arith, λ i h. List·getD-eq-default {A = ℕ} l 0 (omega (arith, F .fill .kept .1 .0)))))
 
 returns-3 : tie.Need-returns-3
