@@ -16,7 +16,10 @@
 
    EVERY CALL answers for all numbers and all bytes lent.
    - It is refused by number where something is wrong: the first number that applies in the
-     sequence of kinarsop_refusal below. `refusal` is 0 where it is answered.
+     sequence of kinarsop_number below. `refusal.number` is 0 where it is answered.
+   - The first bad entry in reading order is told with its place, `refusal.row` and
+     `refusal.column`, counted from 1; a coefficient and the scalar have row 0. Beside other numbers
+     than 5, 10 and 11 both are 0.
    - A refused call changes no byte lent, and every other field of its answer is 0 (false).
    - A length says how many bytes may be read or written from its pointer on. The pointer of length
      0 may be NULL. A result buffer may share no byte with another slice of the same call; what is
@@ -39,9 +42,9 @@
 extern "C" {
 #endif
 
-/* Why a call is refused, in the sequence of the tests; polynomial stands before entry. A call runs
-   those about what it takes. */
-enum kinarsop_refusal {
+/* Why a call is refused, in the sequence of the tests, which is not that of the numbers. A call
+   runs those about what it takes. */
+enum kinarsop_number {
     KINARSOP_ANSWERED = 0,
     /* p is not a prime from 2 to 251. Give a prime; other moduli are not covered. */
     KINARSOP_NO_PRIME = 1,
@@ -56,13 +59,26 @@ enum kinarsop_refusal {
     /* Image: no coefficient, or more than 65. Zero is the one byte 0; of a longer polynomial take
        the rest by the minimal polynomial, which has the same image. */
     KINARSOP_NO_POLYNOMIAL = 7,
-    /* An entry, coefficient or scalar is p or more. Take it modulo p: p - 1 for -1. */
-    KINARSOP_NO_ENTRY = 5,
+    /* An entry of the matrix is p or more. Take it modulo p: p - 1 for -1. */
+    KINARSOP_MATRIX_ENTRY = 5,
+    /* An entry of the row, whose `row` is 1, or of a candidate, whose `row` is its number in the
+       list, is p or more. Take it modulo p. */
+    KINARSOP_ROW_ENTRY = 10,
+    /* A coefficient is p or more: `row` is 0 and `column` its place, that of the lowest being 1.
+       Or the scalar is: `row` is 0 and `column` 1. Take it modulo p. */
+    KINARSOP_COEFFICIENT = 11,
     /* A result buffer is too short. Lend what the call asks, or what always does (the rooms). */
     KINARSOP_NO_ROOM = 6,
     /* A file is no case. No call returns it: kinarsop_sheet writes it as the line REFUSED with
        the place, the first offset at which the bytes can no longer be the beginning of a case. */
     KINARSOP_NO_CASE = 8
+};
+
+/* What every answer begins with: why the call is refused, and where the bad entry is. */
+struct kinarsop_refusal {
+    uint8_t number; /* 0 where the call is answered */
+    size_t row;
+    size_t column;
 };
 
 /* The bounds; the rooms: buffers of so many bytes are enough for every p and n; and the number that
@@ -79,21 +95,21 @@ enum kinarsop_bound {
     KINARSOP_ROW_ROOM = 64,
     KINARSOP_STAGE_ROOM = 128,
     KINARSOP_SHEET_ROOM = 2048,
-    /* It is above every p: it is no inverse, and as an entry, a coefficient or a scalar it is
-       refused by 5. */
+    /* It is above every p: it is no inverse, and it is refused as an entry (by 5 or 10), as a
+       coefficient and as a scalar (by 11). */
     KINARSOP_NO_INVERSE = 255
 };
 
 /* The inverse of the scalar a modulo p: the b from 1 to p - 1 with a*b = 1 modulo p.
-   `inverse` is that b. KINARSOP_NO_INVERSE (and refusal 0): there is none; a is 0. Look for it
+   `inverse` is that b. KINARSOP_NO_INVERSE (and number 0): there is none; a is 0. Look for it
    before you scale by an inverse. 0 stands in `inverse` beside a refusal alone.
-   Refused by 1 (p), 5 (a).
+   Refused by 1 (p), 11 (a).
 
        a = kinarsop_inverse(7, 3);
 
    gives the inverse 5, and with 0 in the place of 3 KINARSOP_NO_INVERSE. */
 struct kinarsop_inverse_answer {
-    uint8_t refusal;
+    struct kinarsop_refusal refusal;
     uint8_t inverse;
 };
 
@@ -105,9 +121,10 @@ struct kinarsop_inverse_answer kinarsop_inverse(uint32_t p, uint32_t a);
      v    the row, n bytes
      out  at least n + 1 bytes; gets the n + 1 coefficients, zeros above the degree
    `degree` is 0 to n; out[degree] is then 1.
-   Refused by 1 (p), 2 (n), 3 (m_length), 4 (v_length), 5 (an entry of m or v), 6 (out_length). */
+   Refused by 1 (p), 2 (n), 3 (m_length), 4 (v_length), 5 (an entry of m), 10 (an entry of v), 6
+   (out_length). */
 struct kinarsop_order_answer {
-    uint8_t refusal;
+    struct kinarsop_refusal refusal;
     size_t degree;
 };
 
@@ -120,12 +137,12 @@ struct kinarsop_order_answer kinarsop_order(uint32_t p, size_t n, const uint8_t 
      v    the row, n bytes
      f    the polynomial, 1 to 65 coefficients; the leading ones may be 0
      out  at least n bytes; gets the n entries of the image
-   Returns the refusal alone: 0 where the image is written.
-   Refused by 1 (p), 2 (n), 3 (m_length), 4 (v_length), 7 (f_length), 5 (an entry of m or v, a
-   coefficient of f), 6 (out_length). */
-uint8_t kinarsop_image(uint32_t p, size_t n, const uint8_t *m, size_t m_length, const uint8_t *v,
-                       size_t v_length, const uint8_t *f, size_t f_length, uint8_t *out,
-                       size_t out_length);
+   Returns the refusal itself: its number is 0 where the image is written.
+   Refused by 1 (p), 2 (n), 3 (m_length), 4 (v_length), 7 (f_length), 5 (an entry of m), 10 (an
+   entry of v), 11 (a coefficient of f), 6 (out_length). */
+struct kinarsop_refusal kinarsop_image(uint32_t p, size_t n, const uint8_t *m, size_t m_length,
+                                       const uint8_t *v, size_t v_length, const uint8_t *f,
+                                       size_t f_length, uint8_t *out, size_t out_length);
 
 /* The stand. Candidates are taken from the front of the list; each costs as many products as the
    degree of its order, and the first that would go over the allowance ends the list. F is the
@@ -144,15 +161,15 @@ uint8_t kinarsop_image(uint32_t p, size_t n, const uint8_t *m, size_t m_length, 
              is in the buffer. Proved: 0.
    From short to proved: lend the unit row of the witness as one more candidate and call again;
    from at most 64 candidates and the full allowance it takes at most n - degree turns.
-   Refused by 1 (p), 2 (n), 3 (m_length), 4 (cs_length), 5 (an entry of m or cs), 6 (poly_length,
-   image_length).
+   Refused by 1 (p), 2 (n), 3 (m_length), 4 (cs_length), 5 (an entry of m), 10 (an entry of cs,
+   taken or not), 6 (poly_length, image_length).
 
        const uint8_t m[] = {0, 1, 2, 0}, cs[] = {1, 0};
        a = kinarsop_stand(3, 2, m, 4, cs, 2, KINARSOP_FULL_ALLOWANCE, poly, 65, image, 64);
 
    gives proved, degree 2, taken 1, spent 2, witness 0; poly begins with 1 0 1. */
 struct kinarsop_stand_answer {
-    uint8_t refusal;
+    struct kinarsop_refusal refusal;
     bool proved;
     size_t degree;
     size_t taken;
@@ -175,7 +192,7 @@ struct kinarsop_stand_answer kinarsop_stand(uint32_t p, size_t n, const uint8_t 
      stages   at least 2*n bytes; gets 2*n bytes: stage after stage its degree and then so many
               coefficients, the leading 1 left out; behind the last stage zeros
    `stages` of the answer is the number of stages, 1 to n.
-   Refused by 1 (p), 2 (n), 3 (m_length), 4 (cs_length), 5 (an entry of m or cs), 6
+   Refused by 1 (p), 2 (n), 3 (m_length), 4 (cs_length), 5 (an entry of m), 10 (an entry of cs), 6
    (product_length, stages_length).
 
        const uint8_t m[] = {0, 1, 0, 2, 0, 0, 0, 0, 1}, cs[] = {1, 0, 0};
@@ -187,7 +204,7 @@ struct kinarsop_stand_answer kinarsop_stand(uint32_t p, size_t n, const uint8_t 
        for (size_t k = 0, at = 0; k < a.stages; k++, at += 1 + (size_t)stages[at])
            show(stages[at], &stages[at + 1]); */
 struct kinarsop_chain_answer {
-    uint8_t refusal;
+    struct kinarsop_refusal refusal;
     size_t stages;
 };
 
@@ -198,10 +215,10 @@ struct kinarsop_chain_answer kinarsop_chain(uint32_t p, size_t n, const uint8_t 
 
 /* The period: the least t from 1 to 65,536 with M to the t the identity.
      m  the matrix, n*n bytes
-   `period` is that t. 0 (and refusal 0): there is none; M is singular, or comes round later.
+   `period` is that t. 0 (and number 0): there is none; M is singular, or comes round later.
    Refused by 1 (p), 2 (n), 3 (m_length), 5 (an entry of m). */
 struct kinarsop_period_answer {
-    uint8_t refusal;
+    struct kinarsop_refusal refusal;
     uint32_t period;
 };
 
@@ -216,7 +233,7 @@ struct kinarsop_period_answer kinarsop_period(uint32_t p, size_t n, const uint8_
    A file that is no case is answered too: its text is the one line REFUSED and the place.
    Refused by 6 (out_length) and by nothing else. */
 struct kinarsop_sheet_answer {
-    uint8_t refusal;
+    struct kinarsop_refusal refusal;
     size_t length;
 };
 

@@ -1,6 +1,7 @@
 /* The minimal polynomial of a machine in memory, from one candidate on: where the stand is short,
    the unit row of the witness is one more candidate, and the call is made again until it is
-   proved. Then a call that is refused. What it prints is in stand.expected. */
+   proved. Then a call that is refused, and where the bad entry is. What it prints is in
+   stand.expected. */
 #include <stdio.h>
 
 #include "kinarsop.h"
@@ -20,9 +21,9 @@ struct list {
     uint8_t rows[KINARSOP_MOST_CANDIDATES * N];
 };
 
-static const char *meaning(uint8_t refusal)
+static const char *meaning(uint8_t number)
 {
-    switch (refusal) {
+    switch (number) {
     case KINARSOP_NO_PRIME:
         return "p is not a prime from 2 to 251";
     case KINARSOP_NO_SIZE:
@@ -31,13 +32,24 @@ static const char *meaning(uint8_t refusal)
         return "the matrix has not n*n bytes";
     case KINARSOP_NO_ROWS:
         return "the list is no whole number of rows, or has over 128";
-    case KINARSOP_NO_ENTRY:
-        return "an entry is p or more";
+    case KINARSOP_MATRIX_ENTRY:
+        return "an entry of the matrix is p or more";
+    case KINARSOP_ROW_ENTRY:
+        return "an entry of a candidate is p or more";
     case KINARSOP_NO_ROOM:
         return "a result buffer is too short";
     default:
         return "this call is not refused by it";
     }
+}
+
+/* A number without a place has the column 0. */
+static void print_refusal(struct kinarsop_refusal refusal)
+{
+    printf("refused by %d: %s", refusal.number, meaning(refusal.number));
+    if (refusal.column != 0)
+        printf(", in row %zu, column %zu", refusal.row, refusal.column);
+    printf("\n");
 }
 
 static void print_bytes(const char *what, const uint8_t *bytes, size_t count)
@@ -65,8 +77,8 @@ static struct kinarsop_stand_answer stand(const uint8_t *m, const struct list *l
     const struct kinarsop_stand_answer answer =
         kinarsop_stand(P, N, m, (size_t)N * N, list->rows, list->count * N,
                        KINARSOP_FULL_ALLOWANCE, poly, sizeof poly, image, sizeof image);
-    if (answer.refusal != KINARSOP_ANSWERED) {
-        printf("refused by %d: %s\n", answer.refusal, meaning(answer.refusal));
+    if (answer.refusal.number != KINARSOP_ANSWERED) {
+        print_refusal(answer.refusal);
         return answer;
     }
     printf("%s, %zu taken, %u spent\n", answer.proved ? "proved" : "short", answer.taken,
@@ -84,7 +96,7 @@ static bool stand_until_proved(struct list *list)
 {
     for (;;) {
         const struct kinarsop_stand_answer answer = stand(machine, list);
-        if (answer.refusal != KINARSOP_ANSWERED)
+        if (answer.refusal.number != KINARSOP_ANSWERED)
             return false;
         if (answer.proved)
             return true;
@@ -92,13 +104,13 @@ static bool stand_until_proved(struct list *list)
     }
 }
 
-/* The machine with the entry 5, which p = 5 does not allow. */
+/* The machine with the entry 5, which p = 5 does not allow, at the front of its second row. */
 static void stand_with_wrong_entry(const struct list *list)
 {
     uint8_t wrong[N * N];
     for (size_t i = 0; i < sizeof wrong; i++)
         wrong[i] = machine[i];
-    wrong[4] = P;
+    wrong[N] = P;
     stand(wrong, list);
 }
 

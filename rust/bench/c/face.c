@@ -35,11 +35,11 @@ static void print_number(size_t number)
 }
 
 /* The word of the answer, or REFUSED and the number. */
-static void print_head(uint8_t refusal, const char *word)
+static void print_head(struct kinarsop_refusal refusal, const char *word)
 {
-    printf("%s", refusal == 0 ? word : "REFUSED");
-    if (refusal != 0)
-        print_number(refusal);
+    printf("%s", refusal.number == 0 ? word : "REFUSED");
+    if (refusal.number != 0)
+        print_number(refusal.number);
 }
 
 static void print_poly(const struct job *job)
@@ -58,7 +58,7 @@ static void stand(bool last, struct job *job)
     if (!last)
         return;
     print_head(a.refusal, a.proved ? "STAND PROVED" : "STAND SHORT");
-    if (a.refusal == 0) {
+    if (a.refusal.number == 0) {
         print_number(a.witness);
         print_number(a.degree);
     }
@@ -73,7 +73,7 @@ static void order(bool last, struct job *job)
     if (!last)
         return;
     print_head(a.refusal, "ORDER");
-    if (a.refusal == 0)
+    if (a.refusal.number == 0)
         print_number(a.degree);
     print_poly(job);
 }
@@ -86,7 +86,7 @@ static void chain(bool last, struct job *job)
     if (!last)
         return;
     print_head(a.refusal, "CHAIN");
-    if (a.refusal == 0)
+    if (a.refusal.number == 0)
         print_number(a.stages);
     print_poly(job);
 }

@@ -9,7 +9,8 @@
                u32 p, u64 n, u32 k: the scalar of inverse, the allowance of stand
                the slices in the sequence of the parameters: u32 length, then the bytes, in a
                  result buffer those that it holds before the call
-     response  six u64: the refusal, the other fields of the answer, zeros
+     response  eight u64: the refusal's number, row and column, the other fields of the answer,
+                 zeros
                the slices, those of the input too, as they are after the call
 
    A slice of length 0 is lent as NULL on the front side, as the address of the page on the other.
@@ -37,7 +38,7 @@ enum {
     MARK = 0xA5,
     BUFFER = 1 << 20,
     MOST_SLICES = 4,
-    FIELDS = 6,
+    FIELDS = 8,
     HEAD = 18,
     BAD_INPUT = 2,
     BAD_WRITE = 3
@@ -144,11 +145,20 @@ static void test_margin(const struct slice *s)
         fail(BAD_WRITE, "a call wrote beside a slice");
 }
 
+/* The fields that every answer begins with; the others are behind them. */
+static uint64_t *put_refusal(struct kinarsop_refusal refusal, uint64_t *fields)
+{
+    *fields++ = refusal.number;
+    *fields++ = refusal.row;
+    *fields++ = refusal.column;
+    return fields;
+}
+
 static void make_inverse(const struct request *r, uint64_t *fields)
 {
     const struct kinarsop_inverse_answer a = kinarsop_inverse(r->p, r->k);
-    fields[0] = a.refusal;
-    fields[1] = a.inverse;
+    fields = put_refusal(a.refusal, fields);
+    fields[0] = a.inverse;
 }
 
 static void make_order(const struct request *r, uint64_t *fields)
@@ -157,15 +167,17 @@ static void make_order(const struct request *r, uint64_t *fields)
     const struct kinarsop_order_answer a =
         kinarsop_order(r->p, r->n, s[0].lent, s[0].length, s[1].lent, s[1].length, s[2].lent,
                        s[2].length);
-    fields[0] = a.refusal;
-    fields[1] = a.degree;
+    fields = put_refusal(a.refusal, fields);
+    fields[0] = a.degree;
 }
 
 static void make_image(const struct request *r, uint64_t *fields)
 {
     const struct slice *s = r->slices;
-    fields[0] = kinarsop_image(r->p, r->n, s[0].lent, s[0].length, s[1].lent, s[1].length,
-                               s[2].lent, s[2].length, s[3].lent, s[3].length);
+    const struct kinarsop_refusal refusal =
+        kinarsop_image(r->p, r->n, s[0].lent, s[0].length, s[1].lent, s[1].length, s[2].lent,
+                       s[2].length, s[3].lent, s[3].length);
+    put_refusal(refusal, fields);
 }
 
 static void make_stand(const struct request *r, uint64_t *fields)
@@ -174,12 +186,12 @@ static void make_stand(const struct request *r, uint64_t *fields)
     const struct kinarsop_stand_answer a =
         kinarsop_stand(r->p, r->n, s[0].lent, s[0].length, s[1].lent, s[1].length, r->k, s[2].lent,
                        s[2].length, s[3].lent, s[3].length);
-    fields[0] = a.refusal;
-    fields[1] = a.proved;
-    fields[2] = a.degree;
-    fields[3] = a.taken;
-    fields[4] = a.spent;
-    fields[5] = a.witness;
+    fields = put_refusal(a.refusal, fields);
+    fields[0] = a.proved;
+    fields[1] = a.degree;
+    fields[2] = a.taken;
+    fields[3] = a.spent;
+    fields[4] = a.witness;
 }
 
 static void make_chain(const struct request *r, uint64_t *fields)
@@ -188,16 +200,16 @@ static void make_chain(const struct request *r, uint64_t *fields)
     const struct kinarsop_chain_answer a =
         kinarsop_chain(r->p, r->n, s[0].lent, s[0].length, s[1].lent, s[1].length, s[2].lent,
                        s[2].length, s[3].lent, s[3].length);
-    fields[0] = a.refusal;
-    fields[1] = a.stages;
+    fields = put_refusal(a.refusal, fields);
+    fields[0] = a.stages;
 }
 
 static void make_period(const struct request *r, uint64_t *fields)
 {
     const struct slice *s = r->slices;
     const struct kinarsop_period_answer a = kinarsop_period(r->p, r->n, s[0].lent, s[0].length);
-    fields[0] = a.refusal;
-    fields[1] = a.period;
+    fields = put_refusal(a.refusal, fields);
+    fields[0] = a.period;
 }
 
 static void make_sheet(const struct request *r, uint64_t *fields)
@@ -205,8 +217,8 @@ static void make_sheet(const struct request *r, uint64_t *fields)
     const struct slice *s = r->slices;
     const struct kinarsop_sheet_answer a =
         kinarsop_sheet(s[0].lent, s[0].length, s[1].lent, s[1].length);
-    fields[0] = a.refusal;
-    fields[1] = a.length;
+    fields = put_refusal(a.refusal, fields);
+    fields[0] = a.length;
 }
 
 struct call {

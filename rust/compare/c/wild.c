@@ -1,6 +1,7 @@
 /* A library that is wrong on purpose, in the place of the real one, to see that lend and what asks
-   it notice. Every call but the period answers and writes nothing. The period touches one byte
-   beside its matrix; p says which, and how. */
+   it notice. Every call but two answers and writes nothing. The order says of an entry in row 2
+   and column 3 that it is in row 3 and column 2. The period touches one byte beside its matrix; p
+   says which, and how. */
 #include "kinarsop.h"
 
 enum { READ_BEHIND = 1, WRITE_BEHIND = 2, READ_IN_FRONT = 3, WRITE_IN_FRONT = 4 };
@@ -17,16 +18,16 @@ struct kinarsop_order_answer kinarsop_order(uint32_t p, size_t n, const uint8_t 
 {
     (void)p, (void)n, (void)m, (void)m_length, (void)v, (void)v_length, (void)out;
     (void)out_length;
-    return (struct kinarsop_order_answer){0};
+    return (struct kinarsop_order_answer){.refusal = {KINARSOP_MATRIX_ENTRY, 3, 2}};
 }
 
-uint8_t kinarsop_image(uint32_t p, size_t n, const uint8_t *m, size_t m_length, const uint8_t *v,
-                       size_t v_length, const uint8_t *f, size_t f_length, uint8_t *out,
-                       size_t out_length)
+struct kinarsop_refusal kinarsop_image(uint32_t p, size_t n, const uint8_t *m, size_t m_length,
+                                       const uint8_t *v, size_t v_length, const uint8_t *f,
+                                       size_t f_length, uint8_t *out, size_t out_length)
 {
     (void)p, (void)n, (void)m, (void)m_length, (void)v, (void)v_length, (void)f, (void)f_length;
     (void)out, (void)out_length;
-    return KINARSOP_ANSWERED;
+    return (struct kinarsop_refusal){0};
 }
 
 struct kinarsop_stand_answer kinarsop_stand(uint32_t p, size_t n, const uint8_t *m,

@@ -5,8 +5,8 @@ use crate::draft::Draft;
 use crate::lend::NO_INVERSE;
 use crate::made::primes;
 use independent::calls::{
-    Call, Name, BUFFERS, ENTRIES, MATRIX, MOST_COEFFICIENTS, POLYNOMIAL, PRIME, ROWS, SIZE, TABLE,
-    WIDEST,
+    Call, Name, BUFFERS, COEFFICIENT, MATRIX, MATRIX_ENTRY, MOST_COEFFICIENTS, POLYNOMIAL, PRIME,
+    ROWS, ROW_ENTRY, SIZE, TABLE, WIDEST,
 };
 use independent::case::MOST_CANDIDATES;
 use independent::naive::LARGEST_PRIME;
@@ -45,10 +45,12 @@ pub fn calls(times: usize, seed: u64) -> impl Iterator<Item = Call> {
 /// Which call runs which tests (`docs/CALLS.md`).
 fn tests(name: Name) -> &'static [u8] {
     match name {
-        Name::Inverse => &[PRIME, ENTRIES],
-        Name::Order | Name::Stand | Name::Chain => &[PRIME, SIZE, MATRIX, ROWS, ENTRIES, BUFFERS],
+        Name::Inverse => &[PRIME, COEFFICIENT],
+        Name::Order | Name::Stand | Name::Chain => {
+            &[PRIME, SIZE, MATRIX, ROWS, MATRIX_ENTRY, ROW_ENTRY, BUFFERS]
+        }
         Name::Image => &TABLE,
-        Name::Period => &[PRIME, SIZE, MATRIX, ENTRIES],
+        Name::Period => &[PRIME, SIZE, MATRIX, MATRIX_ENTRY],
         Name::Sheet => &[BUFFERS],
     }
 }
@@ -68,14 +70,13 @@ fn sets(name: Name, most: usize) -> Vec<Vec<Fault>> {
 }
 
 fn ways(name: Name, test: u8) -> std::ops::Range<usize> {
-    let read = name.results().start;
     0..match test {
         PRIME => MODULI.len(),
         SIZE => SIZES.len(),
         MATRIX | ROWS => LENGTHS,
         POLYNOMIAL => POLYNOMIALS.len(),
-        ENTRIES if name == Name::Inverse => SCALARS,
-        ENTRIES => read * PLACES * VALUES,
+        COEFFICIENT if name == Name::Inverse => SCALARS,
+        MATRIX_ENTRY | ROW_ENTRY | COEFFICIENT => SPOILT.len() * VALUES,
         _ => name.results().len() * SHORT,
     }
 }
@@ -112,8 +113,10 @@ const POLYNOMIALS: [usize; 3] = [0, MOST_COEFFICIENTS + 1, 255];
 /// How many scalars are tried that are p or more.
 const SCALARS: usize = 5;
 
-/// A bad entry is at the first, the middle or the last place of a list, and is p or what stands for no inverse.
-const PLACES: usize = 3;
+/// Where a list is bad, in halves of the way through it: at its first, middle or last place, or at two of them, of which the earlier one is told.
+const SPOILT: [&[usize]; 5] = [&[0], &[1], &[2], &[0, 2], &[1, 2]];
+
+/// A bad entry is p or what stands for no inverse.
 const VALUES: usize = 2;
 
 /// The most rows of a machine whose size is sound.
@@ -150,8 +153,10 @@ fn faulty(numbers: &mut Numbers, primes: &[u64], name: Name, faults: &[Fault]) -
             MATRIX => resize(&mut call.slices[0], square_sizes(draft.laid)[way])?,
             ROWS => resize(&mut call.slices[1], row_sizes(name, draft.laid)[way])?,
             POLYNOMIAL => call.slices[2] = vec![0; POLYNOMIALS[way]],
-            ENTRIES if name == Name::Inverse => call.k = scalars(call.p)[way],
-            ENTRIES => spoil(&mut call, way)?,
+            MATRIX_ENTRY => spoil(call.p, &mut call.slices[0], way)?,
+            ROW_ENTRY => spoil(call.p, &mut call.slices[1], way)?,
+            COEFFICIENT if name == Name::Inverse => call.k = scalars(call.p)[way],
+            COEFFICIENT => spoil(call.p, &mut call.slices[2], way)?,
             _ => shorten(&mut call, draft.laid, way)?,
         }
     }
@@ -204,14 +209,20 @@ fn resize(list: &mut Vec<u8>, length: Option<usize>) -> Option<()> {
     Some(())
 }
 
-/// A bad entry in one of the lists that are read.
-fn spoil(call: &mut Call, way: usize) -> Option<()> {
-    let (list, rest) = (way / (PLACES * VALUES), way % (PLACES * VALUES));
-    let value = u8::try_from([call.p, NO_INVERSE.into()][rest % VALUES]).ok()?;
-    let list = &mut call.slices[list];
-    let last = list.len().checked_sub(1)?;
-    list[[0, last / 2, last][rest / VALUES]] = value;
-    (call.p <= value.into()).then_some(())
+/// One bad entry in a list, or two.
+fn spoil(p: u32, list: &mut [u8], way: usize) -> Option<()> {
+    let value = u8::try_from([p, NO_INVERSE.into()][way % VALUES]).ok()?;
+    for at in spoilt_places(list.len(), way)? {
+        list[at] = value;
+    }
+    (p <= value.into()).then_some(())
+}
+
+/// Where a list of so many entries is spoilt, counted from 0; an empty one cannot be.
+fn spoilt_places(length: usize, way: usize) -> Option<impl Iterator<Item = usize>> {
+    let last = length.checked_sub(1)?;
+    let halves = SPOILT[way / VALUES].iter();
+    Some(halves.map(move |half| last * half / 2))
 }
 
 /// A result buffer that is too short.
@@ -225,13 +236,14 @@ fn shorten(call: &mut Call, n: usize, way: usize) -> Option<()> {
 #[cfg(test)]
 mod tests {
     use super::*;
-    use independent::calls::refusal;
+    use independent::calls::{refusal, Refusal};
     use independent::naive::is_prime;
 
     /// The tests that apply, each looked at by itself.
     fn applying(call: &Call) -> Vec<u8> {
         let n = u128::from(call.n);
         let length = |k: usize| call.slices[k].len() as u128;
+        let bad = |k: usize| call.slices[k].iter().any(|&x| call.p <= x.into());
         let applies = |test: u8| match test {
             PRIME => !is_prime(call.p.into()),
             SIZE => !(1..=64).contains(&n),
@@ -242,11 +254,10 @@ mod tests {
                 _ => length(1) % n != 0 || 128 < length(1) / n,
             },
             POLYNOMIAL => !(1..=65).contains(&length(2)),
-            ENTRIES if call.name == Name::Inverse => call.p <= call.k,
-            ENTRIES => {
-                let read = &call.slices[..call.name.results().start];
-                read.concat().iter().any(|&x| call.p <= x.into())
-            }
+            MATRIX_ENTRY => bad(0),
+            ROW_ENTRY => bad(1),
+            COEFFICIENT if call.name == Name::Inverse => call.p <= call.k,
+            COEFFICIENT => bad(2),
             _ => {
                 let rooms = call.name.rooms(call.n.min(66) as usize);
                 let mut buffers = call.slices[call.name.results()].iter().zip(rooms);
@@ -277,9 +288,40 @@ mod tests {
                     assert_eq!(applying(&call), named, "{}", call.line());
                 }
                 assert!(named.iter().all(|test| applying(&call).contains(test)));
-                assert_eq!(refusal(&call), named.first().copied(), "{}", call.line());
+                let given = refusal(&call).map(|refusal| refusal.number);
+                assert_eq!(given, named.first().copied(), "{}", call.line());
             }
             assert!(2 * made > sets(name, MOST_FAULTS).len(), "{name:?}: {made}");
+        }
+    }
+
+    /// The refusal of a call whose first fault is a bad entry: by where that was put.
+    fn of_entry(call: &Call, fault: Fault) -> Option<Refusal> {
+        let of_list = |k: usize| spoilt_places(call.slices[k].len(), fault.way)?.next();
+        let n = call.n as usize;
+        let place = |at: usize| Refusal::of_entry(fault.test, at / n + 1, at % n + 1);
+        let coefficient = |at: usize| Refusal::of_entry(COEFFICIENT, 0, at + 1);
+        match fault.test {
+            MATRIX_ENTRY => of_list(0).map(place),
+            ROW_ENTRY => of_list(1).map(place),
+            COEFFICIENT if call.name == Name::Inverse => Some(coefficient(0)),
+            COEFFICIENT => of_list(2).map(coefficient),
+            _ => None,
+        }
+    }
+
+    #[test]
+    fn the_first_bad_entry_is_told() {
+        let (mut numbers, primes) = (Numbers(4), primes());
+        for name in Name::ALL {
+            for set in sets(name, 2) {
+                let made = faulty(&mut numbers, &primes, name, &set);
+                let (Some(call), Some(&first)) = (made, set.first()) else {
+                    continue;
+                };
+                let expected = of_entry(&call, first).unwrap_or(Refusal::alone(first.test));
+                assert_eq!(refusal(&call), Some(expected), "{}", call.line());
+            }
         }
     }
 

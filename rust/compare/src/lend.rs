@@ -7,9 +7,10 @@
 //! length, bytes          of each slice, the length in 4 bytes
 //! ```
 //!
-//! and the response to it six numbers of 8 bytes, the refusal and the fields of the answer, and every slice as it is after the call.
+//! and the response to it eight numbers of 8 bytes, the refusal's number, row and column and the other fields of the answer, and every slice as it
+//! is after the call.
 use crate::program::Program;
-use independent::calls::{outcome, Answer, Call};
+use independent::calls::{outcome, Answer, Call, Refusal};
 use independent::lines::{list, short_list};
 use std::fmt;
 use std::io::{BufReader, Read, Write};
@@ -71,8 +72,11 @@ fn batch(inputs: &[Input]) -> Vec<u8> {
     bytes
 }
 
-/// The refusal and the fields of an answer, with zeros behind them.
-const NUMBERS: usize = 6;
+/// The fields of the refusal and the other fields of an answer, with zeros behind them.
+const NUMBERS: usize = 8;
+
+/// The refusal's number, row and column.
+const REFUSAL: usize = 3;
 
 /// What an inverse's field has where there is none, `KINARSOP_NO_INVERSE` in include/kinarsop.h: above every modulus, so that every call refuses it
 /// as an entry, a coefficient or a scalar.
@@ -122,30 +126,45 @@ impl fmt::Display for Seen {
 
 /// An answer in the sequence of the C struct's fields.
 fn numbers(answer: &Answer) -> [u64; NUMBERS] {
-    let only = |x: u64| [0, x, 0, 0, 0, 0];
     match *answer {
-        Answer::Refused(number) => [number.into(), 0, 0, 0, 0, 0],
-        Answer::Inverse(found) => only(found.unwrap_or(NO_INVERSE.into())),
-        Answer::Degree(degree) => only(degree as u64),
-        Answer::Written => only(0),
+        Answer::Refused(refusal) => refused(refusal),
+        Answer::Inverse(found) => answered(&[found.unwrap_or(NO_INVERSE.into())]),
+        Answer::Degree(degree) => answered(&[degree as u64]),
+        Answer::Written => answered(&[]),
         Answer::Stood {
             proved,
             degree,
             taken,
             spent,
             witness,
-        } => [
-            0,
+        } => answered(&[
             proved.into(),
             degree as u64,
             taken as u64,
             spent,
             witness as u64,
-        ],
-        Answer::Stages(count) => only(count as u64),
-        Answer::Period(found) => only(found.unwrap_or(0)),
-        Answer::Length(length) => only(length as u64),
+        ]),
+        Answer::Stages(count) => answered(&[count as u64]),
+        Answer::Period(found) => answered(&[found.unwrap_or(0)]),
+        Answer::Length(length) => answered(&[length as u64]),
     }
+}
+
+/// All but the refusal is 0, and where it has no place, that too.
+fn refused(refusal: Refusal) -> [u64; NUMBERS] {
+    let mut numbers = [0; NUMBERS];
+    numbers[0] = refusal.number.into();
+    if let Some(place) = refusal.place {
+        numbers[1..REFUSAL].copy_from_slice(&[place.row as u64, place.column as u64]);
+    }
+    numbers
+}
+
+/// All of the refusal is 0.
+fn answered(fields: &[u64]) -> [u64; NUMBERS] {
+    let mut numbers = [0; NUMBERS];
+    numbers[REFUSAL..][..fields.len()].copy_from_slice(fields);
+    numbers
 }
 
 /// The running program.
@@ -291,21 +310,39 @@ mod tests {
 
     #[test]
     fn the_numbers_of_an_answer() {
-        let seen = |text: &str| Seen::expected(&call(text)).numbers;
-        assert_eq!(seen("inverse 4 | 3"), [1, 0, 0, 0, 0, 0]);
-        assert_eq!(seen("inverse 5 | 3"), [0, 2, 0, 0, 0, 0]);
-        assert_eq!(seen("inverse 5 | 0"), [0, 255, 0, 0, 0, 0]);
-        assert_eq!(seen("inverse 5 | 5"), [5, 0, 0, 0, 0, 0]);
-        assert_eq!(seen("order 2 | 1 | 0 | 1 | 2*0"), [0, 1, 0, 0, 0, 0]);
-        assert_eq!(seen("image 2 | 1 | 0 | 1 | 1 | 0"), [0; NUMBERS]);
+        let seen = |text: &str| {
+            let numbers = Seen::expected(&call(text)).numbers;
+            assert_eq!(numbers[..REFUSAL], [0; REFUSAL], "{text}");
+            numbers[REFUSAL..].to_vec()
+        };
+        assert_eq!(seen("inverse 5 | 3"), [2, 0, 0, 0, 0]);
+        assert_eq!(seen("inverse 5 | 0"), [255, 0, 0, 0, 0]);
+        assert_eq!(seen("order 2 | 1 | 0 | 1 | 2*0"), [1, 0, 0, 0, 0]);
+        assert_eq!(seen("image 2 | 1 | 0 | 1 | 1 | 0"), [0; 5]);
         let proved = seen("stand 3 | 2 | 0 1 2 0 | 1 0 | 9 | 3*0 | 2*0");
-        assert_eq!(proved, [0, 1, 2, 1, 2, 0]);
+        assert_eq!(proved, [1, 2, 1, 2, 0]);
         let short = seen("stand 3 | 2 | 1 0 0 2 | 1 0 1 0 | 9 | 3*0 | 2*0");
-        assert_eq!(short, [0, 0, 1, 2, 2, 2]);
-        assert_eq!(seen("chain 2 | 1 | 0 | | 2*0 | 2*0"), [0, 1, 0, 0, 0, 0]);
-        assert_eq!(seen("period 3 | 2 | 0 1 2 0"), [0, 4, 0, 0, 0, 0]);
-        assert_eq!(seen("period 2 | 1 | 0"), [0; NUMBERS]);
-        assert_eq!(seen("sheet | 2048*0"), [0, 10, 0, 0, 0, 0]);
+        assert_eq!(short, [0, 1, 2, 2, 2]);
+        assert_eq!(seen("chain 2 | 1 | 0 | | 2*0 | 2*0"), [1, 0, 0, 0, 0]);
+        assert_eq!(seen("period 3 | 2 | 0 1 2 0"), [4, 0, 0, 0, 0]);
+        assert_eq!(seen("period 2 | 1 | 0"), [0; 5]);
+        assert_eq!(seen("sheet | 2048*0"), [10, 0, 0, 0, 0]);
+    }
+
+    /// Number, row and column, and nothing behind them.
+    #[test]
+    fn the_numbers_of_a_refusal() {
+        let seen = |text: &str| {
+            let numbers = Seen::expected(&call(text)).numbers;
+            assert_eq!(numbers[REFUSAL..], [0; NUMBERS - REFUSAL], "{text}");
+            numbers[..REFUSAL].to_vec()
+        };
+        assert_eq!(seen("inverse 4 | 3"), [1, 0, 0]);
+        assert_eq!(seen("inverse 5 | 5"), [11, 0, 1]);
+        assert_eq!(seen("period 3 | 2 | 0 1 3 0"), [5, 2, 1]);
+        assert_eq!(seen("order 3 | 2 | 4*0 | 0 3 | 3*0"), [10, 1, 2]);
+        assert_eq!(seen("image 3 | 1 | 0 | 0 | 1 0 3 | 0"), [11, 0, 3]);
+        assert_eq!(seen("sheet | 0"), [6, 0, 0]);
     }
 
     /// The number is passed on as it comes, so that the header could name another.

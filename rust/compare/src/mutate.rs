@@ -59,6 +59,9 @@ const CHEAP_PRIMES: [u64; 6] = [2, 2, 3, 5, 7, LARGEST_PRIME];
 const SMALL: u64 = 8;
 const LARGE_ONCE_IN: u64 = 60;
 
+/// An entry that is changed is bad once in so many times.
+const BAD_ONCE_IN: u64 = 6;
+
 /// A size that a call can have.
 pub fn some_size(numbers: &mut Numbers) -> u64 {
     let most = if numbers.once_in(LARGE_ONCE_IN) {
@@ -164,13 +167,23 @@ fn change_length(numbers: &mut Numbers, call: &mut Call) {
     }
 }
 
-/// An entry, mostly one below p.
+/// Another entry or coefficient somewhere.
 fn change_entry(numbers: &mut Numbers, call: &mut Call) {
-    let below = u64::from(call.p.clamp(1, 255)) + u64::from(numbers.once_in(16));
+    let entry = some_entry(numbers, call.p);
     let read = &mut call.slices[..call.name.results().start];
     if let Some(list) = some_slice(numbers, read).filter(|list| !list.is_empty()) {
         let at = numbers.place(list.len());
-        list[at] = numbers.below(below) as u8;
+        list[at] = entry;
+    }
+}
+
+/// An entry below p; now and then p, the next one, or what stands for no inverse.
+fn some_entry(numbers: &mut Numbers, p: u32) -> u8 {
+    let p = p.clamp(1, 255) as u8;
+    if numbers.once_in(BAD_ONCE_IN) {
+        numbers.one_of(&[p, p.saturating_add(1), NO_INVERSE])
+    } else {
+        numbers.below(p.into()) as u8
     }
 }
 

@@ -153,8 +153,11 @@ mod tests {
     use super::*;
     use crate::lend::Seen;
     use crate::tally::Tally;
-    use independent::calls::{outcome, Answer, ENTRIES, TABLE, WIDEST};
+    use independent::calls::{
+        outcome, Answer, Place, Refusal, COEFFICIENT, MATRIX_ENTRY, ROW_ENTRY, TABLE, WIDEST,
+    };
     use independent::lines::Line;
+    use std::collections::HashSet;
 
     #[test]
     fn a_round_is_the_same_twice() {
@@ -173,8 +176,22 @@ mod tests {
         }
         let share = 100 * tally.answered() / tally.inputs();
         assert!((40..=60).contains(&share), "{share} %");
+        let refusals: Vec<Refusal> = inputs.iter().filter_map(|x| refusal(&x.call)).collect();
         for number in TABLE {
-            assert!(inputs.iter().any(|x| refusal(&x.call) == Some(number)));
+            let given = refusals.iter().any(|refusal| refusal.number == number);
+            assert!(given, "{number}");
+        }
+    }
+
+    /// Not only at the front of a list.
+    #[test]
+    fn bad_entries_at_many_places() {
+        let inputs: Vec<Input> = (0..10).flat_map(|round| inputs(1, round)).collect();
+        for (number, least) in [(MATRIX_ENTRY, 20), (ROW_ENTRY, 10), (COEFFICIENT, 5)] {
+            let refusals = inputs.iter().filter_map(|x| refusal(&x.call));
+            let bad = refusals.filter(|refusal| refusal.number == number);
+            let places: HashSet<Place> = bad.filter_map(|refusal| refusal.place).collect();
+            assert!(least <= places.len(), "{number}: {}", places.len());
         }
     }
 
@@ -208,7 +225,9 @@ mod tests {
             };
             let none = share(|answer| *answer == Answer::Inverse(None));
             let some = share(|answer| matches!(answer, Answer::Inverse(Some(_))));
-            let refused = share(|answer| *answer == Answer::Refused(ENTRIES));
+            let bad =
+                |answer: &Answer| *answer == Answer::Refused(Refusal::of_entry(COEFFICIENT, 0, 1));
+            let refused = share(bad);
             assert!(
                 5 <= none && 20 <= some && 5 <= refused,
                 "{moduli:?}: {none}, {some}, {refused} %"

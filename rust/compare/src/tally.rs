@@ -78,20 +78,26 @@ mod tests {
     #[test]
     fn what_is_counted() {
         let mut tally = Tally::default();
-        for text in ["inverse 4 | 3", "inverse 5 | 3", "sheet | 2048*0"] {
+        let lines = [
+            "inverse 4 | 3",
+            "inverse 5 | 3",
+            "inverse 5 | 5",
+            "order 5 | 1 | 5 | 0 | 2*0",
+            "order 5 | 1 | 0 | 5 | 2*0",
+            "sheet | 2048*0",
+        ];
+        for text in lines {
             let call = Call::of_line(&Line::parse(text));
             tally.count(call.name, &Seen::expected(&call));
         }
         let mut twice = tally.clone();
         twice.add(&tally);
-        assert_eq!((twice.inputs(), twice.answered()), (6, 2));
+        assert_eq!((twice.inputs(), twice.answered()), (12, 2));
         assert_eq!(twice.sum(|_, sort| sort == NO_CASE), 2);
         let lines: Vec<String> = twice.to_string().lines().map(str::to_string).collect();
         assert_eq!(lines.len(), 2 + Name::ALL.len());
-        let last: Vec<&str> = lines[8].split_whitespace().collect();
-        assert_eq!(
-            last,
-            ["all", "6", "2", "2", "0", "0", "0", "0", "0", "0", "2"]
-        );
+        let words = |k: usize| lines[k].split_whitespace().collect::<Vec<&str>>().join(" ");
+        assert_eq!(words(0), "call inputs answered 1 2 3 4 7 5 10 11 6 8");
+        assert_eq!(words(8), "all 12 2 2 0 0 0 0 2 2 2 0 2");
     }
 }
