@@ -1,5 +1,5 @@
 //! The calls with all that is lent to them: what each answers, and every slice as it leaves it. What is refused is worked out here from the refusal
-//! table alone (01, "Refusal numbers"); the results are those of `naive` and `sheet`.
+//! table alone (01, "Refusal numbers", with 5 split by #102); the results are those of `naive` and `sheet`.
 //!
 //! A call can be written as a line of text, its arguments and what each result buffer holds before it in groups:
 //!
@@ -24,11 +24,55 @@ pub const SIZE: u8 = 2;
 pub const MATRIX: u8 = 3;
 pub const ROWS: u8 = 4;
 pub const POLYNOMIAL: u8 = 7;
-pub const ENTRIES: u8 = 5;
+pub const MATRIX_ENTRY: u8 = 5;
+pub const ROW_ENTRY: u8 = 10;
+pub const COEFFICIENT: u8 = 11;
 pub const BUFFERS: u8 = 6;
 
 /// The order of the table, in which the tests run.
-pub const TABLE: [u8; 7] = [PRIME, SIZE, MATRIX, ROWS, POLYNOMIAL, ENTRIES, BUFFERS];
+pub const TABLE: [u8; 9] = [
+    PRIME,
+    SIZE,
+    MATRIX,
+    ROWS,
+    POLYNOMIAL,
+    MATRIX_ENTRY,
+    ROW_ENTRY,
+    COEFFICIENT,
+    BUFFERS,
+];
+
+/// Where an entry is, counted from 1. The row of a coefficient and of the scalar is 0.
+#[derive(Debug, Clone, Copy, PartialEq, Eq, Hash)]
+pub struct Place {
+    pub row: usize,
+    pub column: usize,
+}
+
+/// Why a call is refused.
+#[derive(Debug, Clone, Copy, PartialEq, Eq)]
+pub struct Refusal {
+    pub number: u8,
+    /// That of the first bad entry; of 5, 10 and 11 alone.
+    pub place: Option<Place>,
+}
+
+impl Refusal {
+    /// The number alone.
+    pub fn alone(number: u8) -> Refusal {
+        Refusal {
+            number,
+            place: None,
+        }
+    }
+
+    pub fn of_entry(number: u8, row: usize, column: usize) -> Refusal {
+        Refusal {
+            number,
+            place: Some(Place { row, column }),
+        }
+    }
+}
 
 pub const WIDEST: u64 = 64;
 pub const MOST_COEFFICIENTS: usize = 65;
@@ -193,6 +237,12 @@ impl Call {
     fn matrix(&self) -> Matrix {
         self.rows(0)
     }
+
+    /// A slice that is read; nothing where the call reads fewer.
+    fn read(&self, k: usize) -> &[u8] {
+        let read = &self.slices[..self.name.results().start];
+        read.get(k).map_or(&[], Vec::as_slice)
+    }
 }
 
 fn word(x: u64) -> u32 {
@@ -210,7 +260,7 @@ fn narrow(list: &[u64]) -> Vec<u8> {
 
 #[derive(Debug, Clone, PartialEq, Eq)]
 pub enum Answer {
-    Refused(u8),
+    Refused(Refusal),
     Inverse(Option<u64>),
     Degree(usize),
     Written,
@@ -238,7 +288,7 @@ pub struct Outcome {
 pub fn outcome(call: &Call) -> Outcome {
     let mut slices = call.slices.clone();
     let answer = match refusal(call) {
-        Some(number) => Answer::Refused(number),
+        Some(refusal) => Answer::Refused(refusal),
         None => {
             let (answer, written) = given(call);
             write(&mut slices[call.name.results()], &written);
@@ -257,8 +307,8 @@ fn write(buffers: &mut [Vec<u8>], written: &[Row]) {
 
 // What is refused.
 
-/// The number of the first test that applies.
-pub fn refusal(call: &Call) -> Option<u8> {
+/// That of the first test that applies.
+pub fn refusal(call: &Call) -> Option<Refusal> {
     let tests = match call.name {
         Name::Inverse => of_scalar(call),
         Name::Sheet => room(call),
@@ -268,21 +318,30 @@ pub fn refusal(call: &Call) -> Option<u8> {
 }
 
 /// A test of the refusal table.
-fn test(number: u8, applies: bool) -> Result<(), u8> {
+fn test(number: u8, applies: bool) -> Result<(), Refusal> {
     if applies {
-        Err(number)
+        Err(Refusal::alone(number))
     } else {
         Ok(())
     }
 }
 
-fn of_scalar(call: &Call) -> Result<(), u8> {
+/// A test of entries, which applies where one of them is bad: its place is given.
+fn test_entries(number: u8, bad: Option<Place>) -> Result<(), Refusal> {
+    match bad {
+        Some(Place { row, column }) => Err(Refusal::of_entry(number, row, column)),
+        None => Ok(()),
+    }
+}
+
+fn of_scalar(call: &Call) -> Result<(), Refusal> {
     test(PRIME, !naive::is_prime(call.p.into()))?;
-    test(ENTRIES, call.p <= call.k)
+    let bad = (call.p <= call.k).then_some(Place { row: 0, column: 1 });
+    test_entries(COEFFICIENT, bad)
 }
 
 /// The tests of a call that takes a matrix. n·n is formed where n is a size alone.
-fn of_machine(call: &Call) -> Result<(), u8> {
+fn of_machine(call: &Call) -> Result<(), Refusal> {
     test(PRIME, !naive::is_prime(call.p.into()))?;
     test(SIZE, call.n < 1 || WIDEST < call.n)?;
     let n = call.size();
@@ -292,9 +351,31 @@ fn of_machine(call: &Call) -> Result<(), u8> {
         POLYNOMIAL,
         call.name == Name::Image && unfit(&call.slices[2]),
     )?;
-    let mut read = call.slices[..call.name.results().start].iter().flatten();
-    test(ENTRIES, read.any(|&x| call.p <= x.into()))?;
+    test_entries(MATRIX_ENTRY, bad_entry(call.p, n, call.read(0)))?;
+    test_entries(ROW_ENTRY, bad_entry(call.p, n, call.read(1)))?;
+    test_entries(COEFFICIENT, bad_coefficient(call.p, call.read(2)))?;
     room(call)
+}
+
+/// The column of the first entry of a row that is p or more.
+fn bad_column(p: u32, row: &[u8]) -> Option<usize> {
+    let bad = |&(_, &x): &(usize, &u8)| p <= x.into();
+    let found = (1..).zip(row).find(bad);
+    found.map(|(column, _)| column)
+}
+
+/// The first entry in reading order that is p or more, of whole rows.
+fn bad_entry(p: u32, n: usize, rows: &[u8]) -> Option<Place> {
+    (1..).zip(rows.chunks(n)).find_map(|(row, entries)| {
+        let column = bad_column(p, entries)?;
+        Some(Place { row, column })
+    })
+}
+
+/// The lowest coefficient that is p or more.
+fn bad_coefficient(p: u32, polynomial: &[u8]) -> Option<Place> {
+    let column = bad_column(p, polynomial)?;
+    Some(Place { row: 0, column })
 }
 
 /// Whether the row, or the list of candidates, has not the length that it is to have.
@@ -313,7 +394,7 @@ fn unfit(polynomial: &[u8]) -> bool {
     polynomial.is_empty() || MOST_COEFFICIENTS < polynomial.len()
 }
 
-fn room(call: &Call) -> Result<(), u8> {
+fn room(call: &Call) -> Result<(), Refusal> {
     let buffers = &call.slices[call.name.results()];
     let rooms = call.name.rooms(call.size());
     let short = buffers.iter().zip(rooms).any(|(b, room)| b.len() < room);
@@ -407,6 +488,18 @@ mod tests {
         outcome(&read(text)).answer
     }
 
+    fn refused(text: &str) -> Option<Refusal> {
+        refusal(&read(text))
+    }
+
+    fn alone(number: u8) -> Option<Refusal> {
+        Some(Refusal::alone(number))
+    }
+
+    fn entry(number: u8, row: usize, column: usize) -> Option<Refusal> {
+        Some(Refusal::of_entry(number, row, column))
+    }
+
     #[test]
     fn a_call_is_the_same_when_it_was_a_line() {
         let lines = [
@@ -444,7 +537,7 @@ mod tests {
     fn a_refused_call_writes_nothing() {
         let call = read("order 3 | 2 | 0 1 2 0 | 1 3 | 9 9 9");
         let expected = Outcome {
-            answer: Answer::Refused(ENTRIES),
+            answer: Answer::Refused(Refusal::of_entry(ROW_ENTRY, 1, 2)),
             slices: call.slices.clone(),
         };
         assert_eq!(outcome(&call), expected);
@@ -458,10 +551,87 @@ mod tests {
             assert_eq!(of(0), Answer::Inverse(None));
             assert_eq!(of(1), Answer::Inverse(Some(1)));
             assert_eq!(of(p - 1), Answer::Inverse(Some(p - 1)));
-            assert_eq!(of(p), Answer::Refused(ENTRIES));
-            assert_eq!(of(p + 1), Answer::Refused(ENTRIES));
+            let refused = Answer::Refused(Refusal::of_entry(COEFFICIENT, 0, 1));
+            assert_eq!(of(p), refused);
+            assert_eq!(of(p + 1), refused);
         }
-        assert_eq!(answer("inverse 4 | 0"), Answer::Refused(PRIME));
+        assert_eq!(refused("inverse 4 | 0"), alone(PRIME));
+    }
+
+    /// The first, a middle and the last place of each thing that a call takes; row and column tell them apart.
+    #[test]
+    fn a_bad_entry_is_told_with_its_place() {
+        let matrix = |m: &str| refused(&format!("period 5 | 3 | {m}"));
+        assert_eq!(matrix("5 8*4"), entry(MATRIX_ENTRY, 1, 1));
+        assert_eq!(matrix("5*4 5 3*4"), entry(MATRIX_ENTRY, 2, 3));
+        assert_eq!(matrix("7*4 6 4"), entry(MATRIX_ENTRY, 3, 2));
+        assert_eq!(matrix("8*4 255"), entry(MATRIX_ENTRY, 3, 3));
+
+        let row = |v: &str| refused(&format!("order 5 | 3 | 9*4 | {v} | 4*9"));
+        assert_eq!(row("5 4 4"), entry(ROW_ENTRY, 1, 1));
+        assert_eq!(row("4 6 4"), entry(ROW_ENTRY, 1, 2));
+        assert_eq!(row("4 4 255"), entry(ROW_ENTRY, 1, 3));
+
+        let list = |cs: &str| refused(&format!("stand 5 | 3 | 9*4 | {cs} | 9 | 4*9 | 3*9"));
+        assert_eq!(list("5 11*4"), entry(ROW_ENTRY, 1, 1));
+        assert_eq!(list("5*4 5 6*4"), entry(ROW_ENTRY, 2, 3));
+        assert_eq!(list("9*4 6 4 4"), entry(ROW_ENTRY, 4, 1));
+        assert_eq!(list("11*4 255"), entry(ROW_ENTRY, 4, 3));
+
+        let polynomial = |f: &str| refused(&format!("image 5 | 3 | 9*4 | 3*4 | {f} | 3*9"));
+        assert_eq!(polynomial("5 7*4"), entry(COEFFICIENT, 0, 1));
+        assert_eq!(polynomial("4*4 6 3*4"), entry(COEFFICIENT, 0, 5));
+        assert_eq!(polynomial("7*4 255"), entry(COEFFICIENT, 0, 8));
+    }
+
+    #[test]
+    fn the_last_places_of_all() {
+        let of_64 = |slices: &str| refused(&format!("chain 2 | 64 | {slices} | 65*9 | 128*9"));
+        assert_eq!(of_64("4095*0 2 | 64*0"), entry(MATRIX_ENTRY, 64, 64));
+        assert_eq!(of_64("4096*0 | 8191*0 2"), entry(ROW_ENTRY, 128, 64));
+        let of_1 = |slices: &str| refused(&format!("chain 2 | 1 | {slices} | 2*9 | 2*9"));
+        assert_eq!(of_1("2 | 128*0"), entry(MATRIX_ENTRY, 1, 1));
+        assert_eq!(of_1("0 | 127*0 2"), entry(ROW_ENTRY, 128, 1));
+        let image = refused("image 2 | 1 | 0 | 0 | 64*0 2 | 9");
+        assert_eq!(image, entry(COEFFICIENT, 0, 65));
+    }
+
+    #[test]
+    fn of_two_bad_entries_the_first() {
+        let matrix = |m: &str| refused(&format!("period 3 | 2 | {m}"));
+        assert_eq!(matrix("0 3 3 0"), entry(MATRIX_ENTRY, 1, 2));
+        assert_eq!(matrix("0 0 4 255"), entry(MATRIX_ENTRY, 2, 1));
+        assert_eq!(matrix("4*3"), entry(MATRIX_ENTRY, 1, 1));
+        let list = |cs: &str| refused(&format!("chain 3 | 2 | 4*0 | {cs} | 3*9 | 4*9"));
+        assert_eq!(list("0 0 0 3 3 0"), entry(ROW_ENTRY, 2, 2));
+        assert_eq!(list("6*3"), entry(ROW_ENTRY, 1, 1));
+        let image = |lists: &str| refused(&format!("image 3 | 2 | {lists} | 9 9"));
+        assert_eq!(image("4*0 | 3 3 | 1"), entry(ROW_ENTRY, 1, 1));
+        assert_eq!(image("4*0 | 0 0 | 1 4 3"), entry(COEFFICIENT, 0, 2));
+        assert_eq!(image("3*0 3 | 3 0 | 1"), entry(MATRIX_ENTRY, 2, 2));
+        assert_eq!(image("3*0 3 | 0 0 | 3"), entry(MATRIX_ENTRY, 2, 2));
+        assert_eq!(image("4*0 | 0 3 | 3"), entry(ROW_ENTRY, 1, 2));
+        assert_eq!(image("0 3 0 0 | 3 3 | 3"), entry(MATRIX_ENTRY, 1, 2));
+    }
+
+    /// Each test with the next one, so that no two of them can change places.
+    #[test]
+    fn of_two_neighbouring_tests_the_first() {
+        assert_eq!(refused("image 4 | 0 | | | 1 | "), alone(PRIME));
+        assert_eq!(refused("image 3 | 65 | | 65*0 | 1 | 65*9"), alone(SIZE));
+        assert_eq!(refused("image 3 | 2 | 0 | 0 | 1 | 9 9"), alone(MATRIX));
+        assert_eq!(refused("image 3 | 2 | 4*0 | 0 | | 9 9"), alone(ROWS));
+        assert_eq!(refused("order 3 | 2 | 3*0 3 | 0 | 3*9"), alone(ROWS));
+        let image = |lists: &str| refused(&format!("image 3 | 2 | {lists}"));
+        assert_eq!(image("3*0 3 | 0 0 | | 9 9"), alone(POLYNOMIAL));
+        assert_eq!(image("3*0 3 | 0 3 | 1 | 9 9"), entry(MATRIX_ENTRY, 2, 2));
+        assert_eq!(image("4*0 | 0 3 | 3 | 9 9"), entry(ROW_ENTRY, 1, 2));
+        assert_eq!(image("4*0 | 0 0 | 3 | 9"), entry(COEFFICIENT, 0, 1));
+        let order = |lists: &str| refused(&format!("order 3 | 2 | {lists} | 9"));
+        assert_eq!(order("3*0 3 | 0 0"), entry(MATRIX_ENTRY, 2, 2));
+        assert_eq!(order("4*0 | 0 3"), entry(ROW_ENTRY, 1, 2));
+        assert_eq!(refused("period 3 | 2 | 3 3 3"), alone(MATRIX));
+        assert_eq!(refused("inverse 4 | 4"), alone(PRIME));
     }
 
     /// n·n is not formed where n is no size.
@@ -469,13 +639,13 @@ mod tests {
     fn sizes_without_bound() {
         for n in [0, 65, 1 << 32, (1 << 32) + 2, u64::MAX] {
             let text = format!("period 3 | {n} | 0 1 2 0");
-            assert_eq!(answer(&text), Answer::Refused(SIZE));
+            assert_eq!(refused(&text), alone(SIZE));
         }
     }
 
     #[test]
     fn a_sheet_is_refused_for_its_buffer_alone() {
-        assert_eq!(answer("sheet  | 2047*0"), Answer::Refused(BUFFERS));
+        assert_eq!(refused("sheet  | 2047*0"), alone(BUFFERS));
         assert_eq!(answer("sheet  | 2048*0"), Answer::Length(10));
     }
 }

@@ -4,12 +4,20 @@
 //!     cargo run --release --manifest-path rust/Cargo.toml --bin trial_calls < crates/trial_calls/stdin > crates/trial_calls/stdout
 //!
 //! A line is a call (`calls.rs`). Its word, the answer and each result buffer as the call leaves it are printed.
-use independent::calls::{outcome, Answer, Call};
+use independent::calls::{outcome, Answer, Call, Refusal};
 use independent::lines::{self, Line};
+
+fn refused(refusal: &Refusal) -> String {
+    let number = refusal.number;
+    match refusal.place {
+        Some(place) => format!("refused {number} row {} column {}", place.row, place.column),
+        None => format!("refused {number}"),
+    }
+}
 
 fn shown(answer: &Answer) -> String {
     match answer {
-        Answer::Refused(number) => format!("refused {number}"),
+        Answer::Refused(refusal) => refused(refusal),
         Answer::Inverse(Some(inverse)) => inverse.to_string(),
         Answer::Inverse(None) => "none".to_string(),
         Answer::Degree(degree) => format!("degree {degree}"),
