@@ -18,25 +18,33 @@ pub(crate) const SHEET_ROOM: usize = 2_048;
 /// What stands for no inverse, as in include/kinarsop.h: above every p, so that it is no inverse.
 pub(crate) const NO_INVERSE: u8 = 255;
 
-// What the calls return. `refusal` is 0 where a call is answered; else it is the number of the refusal, and all else is 0.
+// What the calls return. Where a call is refused, all but the refusal is 0.
+
+/// The number is 0 where a call is answered. Row and column are those of a bad entry; beside a number that is about none they are 0.
+#[repr(C)]
+pub(crate) struct RefusalAnswer {
+    pub(crate) number: u8,
+    pub(crate) row: usize,
+    pub(crate) column: usize,
+}
 
 /// The inverse is 1 to p − 1, or the number for none.
 #[repr(C)]
 pub(crate) struct InverseAnswer {
-    pub(crate) refusal: u8,
+    pub(crate) refusal: RefusalAnswer,
     pub(crate) inverse: u8,
 }
 
 #[repr(C)]
 pub(crate) struct OrderAnswer {
-    pub(crate) refusal: u8,
+    pub(crate) refusal: RefusalAnswer,
     pub(crate) degree: usize,
 }
 
 /// The witness is counted from 1, and 0 where the stand is proved.
 #[repr(C)]
 pub(crate) struct StandAnswer {
-    pub(crate) refusal: u8,
+    pub(crate) refusal: RefusalAnswer,
     pub(crate) proved: bool,
     pub(crate) degree: usize,
     pub(crate) taken: usize,
@@ -46,20 +54,20 @@ pub(crate) struct StandAnswer {
 
 #[repr(C)]
 pub(crate) struct ChainAnswer {
-    pub(crate) refusal: u8,
+    pub(crate) refusal: RefusalAnswer,
     pub(crate) stages: usize,
 }
 
 /// The period is 0 where there is none.
 #[repr(C)]
 pub(crate) struct PeriodAnswer {
-    pub(crate) refusal: u8,
+    pub(crate) refusal: RefusalAnswer,
     pub(crate) period: u32,
 }
 
 #[repr(C)]
 pub(crate) struct SheetAnswer {
-    pub(crate) refusal: u8,
+    pub(crate) refusal: RefusalAnswer,
     pub(crate) length: usize,
 }
 
@@ -89,7 +97,7 @@ extern "C" {
         f_length: usize,
         out: *mut u8,
         out_length: usize,
-    ) -> u8;
+    ) -> RefusalAnswer;
 
     fn kinarsop_stand(
         p: u32,
@@ -156,7 +164,6 @@ pub(crate) fn order(
     }
 }
 
-/// What is returned is the refusal.
 pub(crate) fn image(
     p: u32,
     n: usize,
@@ -164,7 +171,7 @@ pub(crate) fn image(
     row: &[u8],
     polynomial: &[u8],
     image: &mut [u8],
-) -> u8 {
+) -> RefusalAnswer {
     // SAFETY: each pointer comes with its slice's length, the slices live beyond the call, and only the one lent by `&mut`, which shares no byte with
     // another, is written.
     unsafe {

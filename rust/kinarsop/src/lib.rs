@@ -20,8 +20,9 @@
 //! - Rows act from the left: the state after one tick is v·M, so row i of M is where unit row i goes.
 //! - A polynomial is listed by its coefficients, from the lowest to the leading 1: `[1, 0, 1]` is 1 + x².
 //!
-//! Anything else is refused: see [`Refusal`], which says what is wrong and what to do. Slices may share bytes, as a row of the matrix does that is
-//! lent as a candidate too. The library keeps nothing between two calls, so that several threads may call at once; 256 KiB of stack are enough for each.
+//! Anything else is refused: see [`Refusal`], which says what is wrong, of a bad entry also where it is, and what to do. Slices may share bytes, as a
+//! row of the matrix does that is lent as a candidate too. The library keeps nothing between two calls, so that several threads may call at once;
+//! 256 KiB of stack are enough for each.
 //!
 //! # What proved and short are worth
 //!
@@ -43,7 +44,7 @@
 //! # Panics
 //!
 //! No call panics with the library that it is made for. An answer that this library cannot give, such as the refusal of a buffer (number 6) where
-//! enough is always lent, is met with a panic: another library is linked, and nothing that it says is to be used.
+//! enough is always lent, or of an entry that is not bad, is met with a panic: another library is linked, and nothing that it says is to be used.
 #![deny(missing_docs)]
 #![deny(unsafe_code)]
 #![deny(unsafe_op_in_unsafe_fn)]
@@ -52,6 +53,7 @@ mod chain;
 #[allow(unsafe_code)]
 mod face;
 mod inverse;
+mod lent;
 mod refusal;
 mod stand;
 
@@ -60,6 +62,7 @@ pub use refusal::Refusal;
 pub use stand::Stand;
 
 use face::{POLYNOMIAL_ROOM, ROW_ROOM, SHEET_ROOM, STAGE_ROOM};
+use lent::Lent;
 
 /// The largest p.
 pub const LARGEST_PRIME: u32 = 251;
@@ -78,7 +81,7 @@ pub const LONGEST_CASE: usize = 12_682;
 
 /// The inverse of a modulo p: the b from 1 to p − 1 with a·b = 1 modulo p. `None` says that there is no such b: a is 0.
 ///
-/// Refused: [`Prime`](Refusal::Prime); [`Entry`](Refusal::Entry) where a is p or more.
+/// Refused: [`Prime`](Refusal::Prime); [`Scalar`](Refusal::Scalar) where a is p or more.
 ///
 /// ```
 /// assert_eq!(kinarsop::inverse(7, 3), Ok(Some(5)));
@@ -87,13 +90,19 @@ pub const LONGEST_CASE: usize = 12_682;
 /// ```
 pub fn inverse(p: u32, a: u32) -> Result<Option<u8>, Refusal> {
     let answer = face::inverse(p, a);
-    Refusal::read(answer.refusal)?;
+    let lent = Lent {
+        p,
+        scalar: Some(a),
+        ..Lent::default()
+    };
+    Refusal::read(answer.refusal, &lent)?;
     Ok(inverse::read_inverse(answer.inverse))
 }
 
 /// The order of a row: the monic polynomial f of least degree with v·f(M) = 0. That of the zero row is 1.
 ///
-/// Refused: [`Prime`](Refusal::Prime), [`Size`](Refusal::Size), [`Matrix`](Refusal::Matrix), [`Rows`](Refusal::Rows), [`Entry`](Refusal::Entry).
+/// Refused: [`Prime`](Refusal::Prime), [`Size`](Refusal::Size), [`Matrix`](Refusal::Matrix), [`Rows`](Refusal::Rows),
+/// [`MatrixEntry`](Refusal::MatrixEntry), [`RowEntry`](Refusal::RowEntry).
 ///
 /// ```
 /// let matrix = [1, 0, 0, 2];
@@ -105,14 +114,19 @@ pub fn inverse(p: u32, a: u32) -> Result<Option<u8>, Refusal> {
 pub fn order(p: u32, n: usize, matrix: &[u8], row: &[u8]) -> Result<Vec<u8>, Refusal> {
     let mut polynomial = [0; POLYNOMIAL_ROOM];
     let answer = face::order(p, n, matrix, row, &mut polynomial);
-    Refusal::read(answer.refusal)?;
+    let lent = Lent {
+        row,
+        ..Lent::machine(p, n, matrix)
+    };
+    Refusal::read(answer.refusal, &lent)?;
     Ok(polynomial[..=answer.degree].to_vec())
 }
 
 /// The image v·f(M) of a row under a polynomial of 1 to 65 coefficients, lowest first; zeros may stand above its degree.
 ///
 /// Refused: [`Prime`](Refusal::Prime), [`Size`](Refusal::Size), [`Matrix`](Refusal::Matrix), [`Rows`](Refusal::Rows),
-/// [`Polynomial`](Refusal::Polynomial), [`Entry`](Refusal::Entry).
+/// [`Polynomial`](Refusal::Polynomial), [`MatrixEntry`](Refusal::MatrixEntry), [`RowEntry`](Refusal::RowEntry),
+/// [`Coefficient`](Refusal::Coefficient).
 ///
 /// ```
 /// // x sends the row to the state after one tick, and 2 + x², which is x² − 1, sends it to zero.
@@ -129,7 +143,13 @@ pub fn image(
     polynomial: &[u8],
 ) -> Result<Vec<u8>, Refusal> {
     let mut image = [0; ROW_ROOM];
-    Refusal::read(face::image(p, n, matrix, row, polynomial, &mut image))?;
+    let refusal = face::image(p, n, matrix, row, polynomial, &mut image);
+    let lent = Lent {
+        row,
+        polynomial,
+        ..Lent::machine(p, n, matrix)
+    };
+    Refusal::read(refusal, &lent)?;
     Ok(image[..n].to_vec())
 }
 
@@ -139,7 +159,8 @@ pub fn image(
 /// Candidates are taken from the front of the list. Each costs as many products as the degree of its order, and the first that would go over the
 /// allowance ends the list. [`FULL_ALLOWANCE`] pays for every list.
 ///
-/// Refused: [`Prime`](Refusal::Prime), [`Size`](Refusal::Size), [`Matrix`](Refusal::Matrix), [`Rows`](Refusal::Rows), [`Entry`](Refusal::Entry).
+/// Refused: [`Prime`](Refusal::Prime), [`Size`](Refusal::Size), [`Matrix`](Refusal::Matrix), [`Rows`](Refusal::Rows),
+/// [`MatrixEntry`](Refusal::MatrixEntry), [`CandidateEntry`](Refusal::CandidateEntry).
 ///
 /// ```
 /// use kinarsop::{stand, Stand};
@@ -170,7 +191,11 @@ pub fn stand(
         &mut polynomial,
         &mut image,
     );
-    Refusal::read(answer.refusal)?;
+    let lent = Lent {
+        candidates,
+        ..Lent::machine(p, n, matrix)
+    };
+    Refusal::read(answer.refusal, &lent)?;
     let polynomial = polynomial[..=answer.degree].to_vec();
     let (taken, spent) = (answer.taken, answer.spent);
     Ok(if answer.proved {
@@ -193,7 +218,8 @@ pub fn stand(
 /// The chain of relative orders. The candidates and then the unit rows are looked at in sequence: a row in the space of those before it is passed over,
 /// any other gives a stage, its relative order over that space, and the space grows by the row and its products with powers of M.
 ///
-/// Refused: [`Prime`](Refusal::Prime), [`Size`](Refusal::Size), [`Matrix`](Refusal::Matrix), [`Rows`](Refusal::Rows), [`Entry`](Refusal::Entry).
+/// Refused: [`Prime`](Refusal::Prime), [`Size`](Refusal::Size), [`Matrix`](Refusal::Matrix), [`Rows`](Refusal::Rows),
+/// [`MatrixEntry`](Refusal::MatrixEntry), [`CandidateEntry`](Refusal::CandidateEntry).
 ///
 /// ```
 /// let chain = kinarsop::chain(5, 2, &[1, 0, 0, 1], &[1, 0])?;
@@ -205,7 +231,11 @@ pub fn chain(p: u32, n: usize, matrix: &[u8], candidates: &[u8]) -> Result<Chain
     let mut product = [0; POLYNOMIAL_ROOM];
     let mut stages = [0; STAGE_ROOM];
     let answer = face::chain(p, n, matrix, candidates, &mut product, &mut stages);
-    Refusal::read(answer.refusal)?;
+    let lent = Lent {
+        candidates,
+        ..Lent::machine(p, n, matrix)
+    };
+    Refusal::read(answer.refusal, &lent)?;
     Ok(Chain {
         stages: chain::read_stages(answer.stages, &stages),
         product: product[..=n].to_vec(),
@@ -214,7 +244,7 @@ pub fn chain(p: u32, n: usize, matrix: &[u8], candidates: &[u8]) -> Result<Chain
 
 /// The period: the least t from 1 to 65,536 with M to the t the identity. `None` says that there is no such t: M is singular, or comes round later.
 ///
-/// Refused: [`Prime`](Refusal::Prime), [`Size`](Refusal::Size), [`Matrix`](Refusal::Matrix), [`Entry`](Refusal::Entry).
+/// Refused: [`Prime`](Refusal::Prime), [`Size`](Refusal::Size), [`Matrix`](Refusal::Matrix), [`MatrixEntry`](Refusal::MatrixEntry).
 ///
 /// ```
 /// assert_eq!(kinarsop::period(3, 2, &[0, 1, 2, 0]), Ok(Some(4)));
@@ -222,7 +252,7 @@ pub fn chain(p: u32, n: usize, matrix: &[u8], candidates: &[u8]) -> Result<Chain
 /// ```
 pub fn period(p: u32, n: usize, matrix: &[u8]) -> Result<Option<u32>, Refusal> {
     let answer = face::period(p, n, matrix);
-    Refusal::read(answer.refusal)?;
+    Refusal::read(answer.refusal, &Lent::machine(p, n, matrix))?;
     Ok((answer.period != 0).then_some(answer.period))
 }
 
@@ -251,7 +281,7 @@ pub fn period(p: u32, n: usize, matrix: &[u8]) -> Result<Option<u32>, Refusal> {
 pub fn sheet(file: &[u8]) -> Result<String, Refusal> {
     let mut text = [0; SHEET_ROOM];
     let answer = face::sheet(file, &mut text);
-    Refusal::read(answer.refusal)?;
+    Refusal::read(answer.refusal, &Lent::default())?;
     let text = std::str::from_utf8(&text[..answer.length]).expect("a sheet is plain text");
     match text.strip_prefix("REFUSED ") {
         None => Ok(text.to_string()),

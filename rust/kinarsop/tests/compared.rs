@@ -1,8 +1,10 @@
 //! The library against the independent implementation, on made inputs that are the same in every run.
+use independent::calls::{self, Call, Name};
 use independent::naive::{self, Matrix, Row};
 use independent::numbers::Numbers;
 use independent::sheet::printed;
 use kinarsop::{chain, image, inverse, order, period, sheet, stand, Chain, Refusal, Stand};
+use std::collections::HashSet;
 
 const PRIMES: [u64; 10] = [2, 2, 2, 3, 3, 5, 7, 11, 127, 251];
 
@@ -181,6 +183,69 @@ fn periods() {
         assert_eq!(found, Ok(expected.map(|t| t as u32)));
     }
     assert!((COUNT / 5..COUNT * 4 / 5).contains(&none), "{none}");
+}
+
+/// Bad entries in the list, one or two.
+fn spoil(numbers: &mut Numbers, p: u64, list: &mut [u8]) {
+    let bad = [p, p + 1, 255].map(|x| x as u8);
+    for _ in 0..=numbers.below(2) {
+        list[numbers.place(list.len())] = numbers.one_of(&bad);
+    }
+}
+
+/// The number, the row and the column by which the independent implementation refuses a call that is lent these lists and enough room.
+fn told(made: &Made, name: Name, read: &[&[u8]]) -> Option<(u8, Option<(usize, usize)>)> {
+    let mut slices: Vec<Vec<u8>> = read.iter().map(|list| list.to_vec()).collect();
+    slices.extend(name.rooms(made.n).into_iter().map(|room| vec![0; room]));
+    let refusal = calls::refusal(&Call {
+        name,
+        p: made.p(),
+        n: made.n as u64,
+        k: 0,
+        slices,
+    })?;
+    let place = refusal.place.map(|place| (place.row, place.column));
+    Some((refusal.number, place))
+}
+
+/// In the polynomial alone, or in the candidates too, or in the row too, or in all: so each of them is the first now and then.
+#[test]
+fn bad_entries() {
+    let mut numbers = Numbers(15);
+    let mut seen = HashSet::new();
+    for _ in 0..3_000 {
+        let made = Made::new(&mut numbers, 9);
+        let (p, n) = (made.p(), made.n);
+        let mut m = made.matrix();
+        let mut v = bytes(&numbers.row(made.p, n));
+        let mut cs = bytes(&numbers.row(made.p, 5 * n));
+        let mut f = bytes(&numbers.row(made.p, 7));
+        let lists: [&mut [u8]; 4] = [&mut f, &mut cs, &mut v, &mut m];
+        let spoilt = 1 + numbers.place(lists.len());
+        for list in lists.into_iter().take(spoilt) {
+            spoil(&mut numbers, made.p, list);
+        }
+        let found = [
+            image(p, n, &m, &v, &f).err(),
+            order(p, n, &m, &v).err(),
+            stand(p, n, &m, &cs, 0).err(),
+            chain(p, n, &m, &cs).err(),
+            period(p, n, &m).err(),
+        ];
+        let expected = [
+            told(&made, Name::Image, &[&m, &v, &f]),
+            told(&made, Name::Order, &[&m, &v]),
+            told(&made, Name::Stand, &[&m, &cs]),
+            told(&made, Name::Chain, &[&m, &cs]),
+            told(&made, Name::Period, &[&m]),
+        ];
+        let found = found.map(|x| x.map(|x| (x.number(), x.row_and_column())));
+        assert_eq!(found, expected);
+        seen.extend(found.into_iter().flatten());
+    }
+    let numbers: HashSet<u8> = seen.iter().map(|(number, _)| *number).collect();
+    assert_eq!(numbers, HashSet::from([5, 10, 11]));
+    assert!(100 < seen.len(), "{}", seen.len());
 }
 
 /// Case files, whole and with a byte changed, left out or put in. They are few and small, since the independent reader tries every shape of a case.

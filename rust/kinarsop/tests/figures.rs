@@ -132,7 +132,7 @@ fn inverses() {
             assert_eq!(a * u32::from(b) % p, 1, "{p} {a} {b}");
         }
         for a in [p, p + 1] {
-            assert_eq!(inverse(p, a), Err(Refusal::Entry));
+            assert_eq!(inverse(p, a), Err(Refusal::Scalar { found: a, p }));
         }
     }
 }

@@ -1,11 +1,11 @@
-//! Every number of every call, two faults at once, the bounds, empty slices, and what an error says.
+//! Every number of every call, two faults at once, the places of bad entries, the bounds, empty slices, and what an error says.
 use independent::naive::is_prime;
 use kinarsop::{chain, image, inverse, order, period, sheet, stand, Refusal, Stand};
 use kinarsop::{LARGEST_N, LARGEST_PRIME, MOST_CANDIDATES};
 use std::collections::HashSet;
 
 /// 01's table, in its sequence; 6 and 8 cannot come from these calls.
-const TABLE: [u8; 6] = [1, 2, 3, 4, 7, 5];
+const TABLE: [u8; 8] = [1, 2, 3, 4, 7, 5, 10, 11];
 
 /// What is lent to a call.
 #[derive(Clone)]
@@ -125,14 +125,14 @@ fn faults() -> Vec<Fault> {
             faults.push(fault(number, part, put));
         }
     }
-    for part in [Matrix, Row, Candidates, Polynomial] {
+    for (number, part) in [(5, Matrix), (10, Row), (10, Candidates), (11, Polynomial)] {
         for x in [3, 4, 127, 128, 255] {
-            faults.push(fault(5, part, move |l| {
+            faults.push(fault(number, part, move |l| {
                 if let Some(first) = list(l, part).first_mut() {
                     *first = x;
                 }
             }));
-            faults.push(fault(5, part, move |l| {
+            faults.push(fault(number, part, move |l| {
                 if let Some(last) = list(l, part).last_mut() {
                     *last = x;
                 }
@@ -140,7 +140,7 @@ fn faults() -> Vec<Fault> {
         }
     }
     for a in [3, 4, 255, 256, 258, u32::MAX] {
-        faults.push(fault(5, A, move |l| l.a = a));
+        faults.push(fault(11, A, move |l| l.a = a));
     }
     faults
 }
@@ -172,11 +172,11 @@ fn every_number_of_every_call() {
     }
     // docs/CALLS.md, without 6.
     let tests = [
-        ("inverse", &[1, 5][..]),
-        ("order", &[1, 2, 3, 4, 5]),
-        ("image", &[1, 2, 3, 4, 7, 5]),
-        ("stand", &[1, 2, 3, 4, 5]),
-        ("chain", &[1, 2, 3, 4, 5]),
+        ("inverse", &[1, 11][..]),
+        ("order", &[1, 2, 3, 4, 5, 10]),
+        ("image", &[1, 2, 3, 4, 7, 5, 10, 11]),
+        ("stand", &[1, 2, 3, 4, 5, 10]),
+        ("chain", &[1, 2, 3, 4, 5, 10]),
         ("period", &[1, 2, 3, 5]),
     ];
     let expected = tests
@@ -216,6 +216,65 @@ fn of_two_faults_in_one_list_the_length() {
     assert_eq!(found, Err(Refusal::Polynomial));
 }
 
+/// The refusal for a bad entry at this place of the list, counted from 0, with p = 3 and n = 2.
+fn bad_entry(part: Part, at: usize, found: u8) -> Refusal {
+    let (row, column, p) = (at / 2 + 1, at % 2 + 1, 3);
+    match part {
+        Matrix => Refusal::MatrixEntry {
+            row,
+            column,
+            found,
+            p,
+        },
+        Row => Refusal::RowEntry { column, found, p },
+        Candidates => Refusal::CandidateEntry {
+            candidate: row,
+            column,
+            found,
+            p,
+        },
+        Polynomial => Refusal::Coefficient {
+            place: at + 1,
+            found,
+            p,
+        },
+        P | A | N => panic!("{part:?} is a number"),
+    }
+}
+
+/// Each place of each list; what is bad behind it is not told.
+#[test]
+fn where_a_bad_entry_is() {
+    for part in [Matrix, Row, Candidates, Polynomial] {
+        for at in 0..list(&mut good(), part).len() {
+            let mut lent = good();
+            list(&mut lent, part)[at..].fill(255);
+            list(&mut lent, part)[at] = 3;
+            for call in CALLS.iter().filter(|call| call.takes.contains(&part)) {
+                let expected = Err(bad_entry(part, at, 3));
+                assert_eq!((call.made)(&lent), expected, "{} {part:?}", call.name);
+            }
+        }
+    }
+}
+
+#[test]
+fn where_the_last_bad_entry_can_be() {
+    let mut matrix = [0; LARGEST_N * LARGEST_N];
+    let mut candidates = [0; MOST_CANDIDATES * LARGEST_N];
+    candidates[MOST_CANDIDATES * LARGEST_N - 1] = 2;
+    let place = |refusal: Refusal| (refusal.number(), refusal.row_and_column());
+    let found = chain(2, LARGEST_N, &matrix, &candidates).unwrap_err();
+    assert_eq!(place(found), (10, Some((128, 64))));
+    matrix[LARGEST_N * LARGEST_N - 1] = 2;
+    let found = stand(2, LARGEST_N, &matrix, &candidates, 0).unwrap_err();
+    assert_eq!(place(found), (5, Some((64, 64))));
+    let mut polynomial = [0; 65];
+    polynomial[64] = 2;
+    let found = image(2, 1, &[0], &[0], &polynomial).unwrap_err();
+    assert_eq!(place(found), (11, Some((0, 65))));
+}
+
 #[test]
 fn bounds() {
     let primes: Vec<u32> = (0..300).filter(|&p| inverse(p, 0).is_ok()).collect();
@@ -252,10 +311,22 @@ fn bounds() {
     }
     // 0 has no inverse, and is not refused.
     assert_eq!(inverse(251, 0), Ok(None));
-    for a in 0..256 {
-        let expected = (251 <= a).then_some(Refusal::Entry);
-        assert_eq!(inverse(251, a).err(), expected);
-        assert_eq!(period(251, 1, &[a as u8]).err(), expected);
+    for found in 0..=255 {
+        let bad = 251 <= found;
+        let scalar = Refusal::Scalar {
+            found: found.into(),
+            p: 251,
+        };
+        let expected = bad.then_some(scalar);
+        assert_eq!(inverse(251, found.into()).err(), expected);
+        let entry = Refusal::MatrixEntry {
+            row: 1,
+            column: 1,
+            found,
+            p: 251,
+        };
+        let expected = bad.then_some(entry);
+        assert_eq!(period(251, 1, &[found]).err(), expected);
     }
 }
 
@@ -293,14 +364,52 @@ fn what_an_error_says() {
         (Refusal::Matrix, 3, "the matrix has not n·n bytes"),
         (Refusal::Rows, 4, "the row has not n bytes"),
         (
-            Refusal::Entry,
-            5,
-            "an entry, a coefficient or the scalar is p or more",
-        ),
-        (
             Refusal::Polynomial,
             7,
             "the polynomial has no coefficient or over 65",
+        ),
+        (
+            Refusal::MatrixEntry {
+                row: 2,
+                column: 3,
+                found: 9,
+                p: 7,
+            },
+            5,
+            "the entry in row 2, column 3 of the matrix is 9",
+        ),
+        (
+            Refusal::RowEntry {
+                column: 2,
+                found: 7,
+                p: 7,
+            },
+            10,
+            "the entry in column 2 of the row is 7",
+        ),
+        (
+            Refusal::CandidateEntry {
+                candidate: 3,
+                column: 2,
+                found: 255,
+                p: 7,
+            },
+            10,
+            "the entry in candidate 3, column 2 is 255",
+        ),
+        (
+            Refusal::Coefficient {
+                place: 4,
+                found: 8,
+                p: 7,
+            },
+            11,
+            "coefficient 4 (of x^3) is 8",
+        ),
+        (
+            Refusal::Scalar { found: 1_000, p: 7 },
+            11,
+            "the scalar is 1000",
         ),
         (
             Refusal::File { place: 10 },
@@ -317,5 +426,9 @@ fn what_an_error_says() {
         assert!(says.starts_with(wrong), "{text}");
         assert!(!advice.is_empty(), "{text}");
         assert!(!text.contains('\n') && !text.contains("  "), "{text}");
+        if refusal.row_and_column().is_some() {
+            let allowed = "with p = 7 it may be 0 to 6; take it modulo p";
+            assert_eq!((says, advice), (wrong, allowed));
+        }
     }
 }
