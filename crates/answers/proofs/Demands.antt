@@ -19,8 +19,8 @@ use Rattle.meaning.specs.Calls.{given, StandCall}
 use Rattle.promises.specs.Additions.{FromBounds}
 use Rattle.promises.specs.CallRun.{Buffers, shown, CallsEnd}
 use Rattle.promises.proofs.Answers.{answer-minimal, answer-short, answer-more, answer-reordered, calls-end}
-use Rattle.refusals.specs.Reasons.{asRefusal}
-use Rattle.refusals.specs.declared.Reason.{Reason}
+use Rattle.reasons.specs.Reasons.{asRefusal}
+use Rattle.reasons.specs.declared.Reason.{Reason}
 use Rattle.calls.specs.Answers.{stoodOf}
 use Rattle.answers.specs.Runs.{StoodEnd}
 use Rattle.calls.specs.declared.Counts.{Counts}

@@ -24,8 +24,8 @@ use Rattle.meaning.specs.Calls.{Answer, refused, given, InverseCall, OrderCall,
 use Rattle.meaning.specs.Sheet.{SheetCall}
 use Rattle.meaning.proofs.Called.{refused-given}
 use Rattle.promises.proofs.Calls.{inverse-unique, order-unique, image-unique, stand-unique, chain-unique, period-unique}
-use Rattle.refusals.specs.Reasons.{numbersOf}
-use Rattle.refusals.specs.declared.Numbers.{Numbers}
+use Rattle.reasons.specs.Reasons.{numbersOf}
+use Rattle.reasons.specs.declared.Numbers.{Numbers}
 use Rattle.kinarsop.specs.Face.{hasPlace, refusalIn, readAs, Placeless, Alone, standingIn, noInverse, inverseIn, periodIn}
 use Rattle.kinarsop.specs.Face.{inverseRead, orderRead, imageRead, standNumbers, outcomeIn, standRead, chainRead, periodRead, sheetRead}
 use Rattle.kinarsop.specs.declared.InverseAnswer.{InverseAnswer}

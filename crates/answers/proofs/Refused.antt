@@ -11,7 +11,7 @@ use Rattle.meaning.specs.Bounds.{mostCandidates}
 use Rattle.meaning.specs.Calls.{refused, InverseCall, OrderCall, ImageCall, StandCall, ChainCall, PeriodCall}
 use Rattle.promises.specs.Refused.{Explained}
 use Rattle.promises.proofs.Refused.{inverse-explained, order-explained, image-explained, stand-explained, chain-explained, period-explained}
-use Rattle.refusals.specs.declared.Numbers.{Numbers}
+use Rattle.reasons.specs.declared.Numbers.{Numbers}
 use Rattle.kinarsop.specs.Face.{refusalIn, readAs, inverseRead, orderRead, imageRead, standRead, chainRead, periodRead}
 use Rattle.kinarsop.specs.declared.InverseAnswer.{InverseAnswer}
 use Rattle.kinarsop.specs.declared.OrderAnswer.{OrderAnswer}

@@ -16,7 +16,7 @@ use Rattle.meaning.proofs.Unique.{outcome-path}
 use Rattle.promises.specs.Additions.{FromBounds, added}
 use Rattle.promises.specs.CallRun.{Buffers, shown, LongEnough, CallRun, first, again, EndsProved}
 use Rattle.promises.proofs.Answers.{answer-stand, answer-room, calls-again}
-use Rattle.refusals.specs.Reasons.{asRefusal}
+use Rattle.reasons.specs.Reasons.{asRefusal}
 use Rattle.calls.specs.Answers.{stoodOf}
 use Rattle.answers.specs.Runs.{StoodRun, stood-first, stood-again, StoodProved}
 use Rattle.calls.specs.declared.Counts.{Counts}

@@ -7,7 +7,7 @@ use mathlib.Core.List.{List}
 use Prim.Native.Nat.{ℕ}
 use Rattle.meaning.specs.Sheet.{SheetCall}
 use Rattle.meaning.proofs.Called.{refused-given}
-use Rattle.refusals.specs.Reasons.{asRefusal}
+use Rattle.reasons.specs.Reasons.{asRefusal}
 use Rattle.sheet.specs.Answers.{sheetedOf}
 use Rattle.sheet.specs.declared.Sheeted.{Sheeted}
 use Rattle.sheet.specs.declared.Sheeted.the-variants as sheeted

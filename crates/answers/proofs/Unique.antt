@@ -21,9 +21,9 @@ use Rattle.meaning.specs.Stand.{Standing, proved, short, Outcome}
 use Rattle.meaning.specs.Calls.{Answer, refused, given, InverseCall, OrderCall, ImageCall, StandCall, ChainCall, PeriodCall}
 use Rattle.meaning.proofs.Called.{refused-given}
 use Rattle.promises.proofs.Calls.{inverse-unique, order-unique, image-unique, stand-unique, chain-unique, period-unique}
-use Rattle.refusals.specs.Reasons.{asRefusal}
-use Rattle.refusals.specs.declared.Reason.{Reason}
-use Rattle.refusals.specs.declared.Reason.the-variants as reason
+use Rattle.reasons.specs.Reasons.{asRefusal}
+use Rattle.reasons.specs.declared.Reason.{Reason}
+use Rattle.reasons.specs.declared.Reason.the-variants as reason
 use Rattle.calls.specs.Answers.{invertedOf, orderedOf, imagedOf, countedAs, stoodOf, chainedOf, periodedOf}
 use Rattle.calls.specs.declared.Counts.{Counts}
 use Rattle.calls.specs.declared.Inverted.{Inverted}

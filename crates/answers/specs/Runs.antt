@@ -10,7 +10,7 @@ use Prim.Native.Nat.{ℕ, zero, suc, _-_, _≤_}
 use Rattle.meaning.specs.Bytes.{e, bytes}
 use Rattle.meaning.specs.Calls.{StandCall}
 use Rattle.promises.specs.CallRun.{Buffers, LongEnough}
-use Rattle.refusals.specs.declared.Reason.{Reason}
+use Rattle.reasons.specs.declared.Reason.{Reason}
 use Rattle.calls.specs.Answers.{stoodOf}
 use Rattle.calls.specs.declared.Counts.{Counts}
 use Rattle.calls.specs.declared.Stood.{Stood}

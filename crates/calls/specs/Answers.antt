@@ -6,7 +6,7 @@ use mathlib.Core.Option.{Option, none, some}
 use Prim.Native.Nat.{ℕ}
 use Rattle.meaning.specs.Stand.{Standing, proved, short, Outcome}
 use Rattle.meaning.specs.Calls.{Answer, refused, given}
-use Rattle.refusals.specs.Reasons.{asRefusal}
+use Rattle.reasons.specs.Reasons.{asRefusal}
 use Rattle.calls.specs.declared.Inverted.{Inverted}
 use Rattle.calls.specs.declared.Inverted.the-variants as inverted
 use Rattle.calls.specs.declared.Ordered.{Ordered}

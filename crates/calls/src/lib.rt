@@ -7,8 +7,8 @@ ghost use Rattle.meaning.specs.Bytes.{write};
 ghost use Rattle.meaning.specs.Calls.{InverseCall, OrderCall, ImageCall, StandCall, ChainCall, PeriodCall};
 ghost use Rattle.calls.specs.Answers.{invertedOf, orderedOf, imagedOf, stoodOf, chainedOf, periodedOf};
 use period::Returns;
-use refusals::Checked;
-use refusals::Reason;
+use reasons::Checked;
+use reasons::Reason;
 
 // 0 has no inverse.
 pub enum Inverted {

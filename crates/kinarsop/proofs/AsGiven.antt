@@ -16,10 +16,10 @@ use Rattle.meaning.specs.Refusal.{alone}
 use Rattle.meaning.specs.Calls.{Answer, refused, given, InverseCall, PeriodCall}
 use Rattle.meaning.proofs.Refusal.{inverse-sound}
 use Rattle.meaning.proofs.Called.{called-given}
-use Rattle.refusals.specs.Reasons.{asRefusal, numbersOf}
-use Rattle.refusals.specs.declared.Numbers.{Numbers}
-use Rattle.refusals.specs.declared.Reason.{Reason}
-use Rattle.refusals.specs.declared.Reason.the-variants as reason
+use Rattle.reasons.specs.Reasons.{asRefusal, numbersOf}
+use Rattle.reasons.specs.declared.Numbers.{Numbers}
+use Rattle.reasons.specs.declared.Reason.{Reason}
+use Rattle.reasons.specs.declared.Reason.the-variants as reason
 use Rattle.kinarsop.specs.Face.{hasPlace, readAs, AllZero, Alone, noInverse, inverseIn, periodIn}
 
 pub answered-as : {A : Type 0} {x : Numbers} {r : A} (P : Answer A → Type 0) → x ≡ numbersOf (alone 0) → P (given r) → P (readAs x r)

@@ -23,7 +23,7 @@ use lib.Dec.{eqb}
 use Rattle.meaning.specs.Stand.{Standing, proved, short, Outcome}
 use Rattle.meaning.specs.Refusal.{Refusal, alone, at}
 use Rattle.meaning.specs.Calls.{Answer, refused, given}
-use Rattle.refusals.specs.declared.Numbers.{Numbers}
+use Rattle.reasons.specs.declared.Numbers.{Numbers}
 use Rattle.kinarsop.specs.declared.InverseAnswer.{InverseAnswer}
 use Rattle.kinarsop.specs.declared.OrderAnswer.{OrderAnswer}
 use Rattle.kinarsop.specs.declared.StandAnswer.{StandAnswer}

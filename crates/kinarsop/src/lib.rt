@@ -6,7 +6,7 @@ ghost use mathlib.Core.List.{[], _∷_};
 ghost use Rattle.meaning.specs.Calls.{given, InverseCall, OrderCall, ImageCall, StandCall, ChainCall, PeriodCall};
 ghost use Rattle.meaning.specs.Sheet.{SheetCall};
 ghost use Rattle.meaning.specs.Refusal.{alone as numbered};
-ghost use Rattle.refusals.specs.Reasons.{numbersOf};
+ghost use Rattle.reasons.specs.Reasons.{numbersOf};
 ghost use Rattle.calls.specs.Answers.{countedAs};
 ghost use Rattle.kinarsop.specs.Face.{Alone, standingIn, inverseRead, orderRead, imageRead, standNumbers, standRead, chainRead, periodRead, sheetRead};
 use calls::Chained;
@@ -16,7 +16,7 @@ use calls::Inverted;
 use calls::Ordered;
 use calls::Perioded;
 use calls::Stood;
-use refusals::Numbers;
+use reasons::Numbers;
 use sheet::Sheeted;
 
 // The number of an answered call.
@@ -72,7 +72,7 @@ pub struct SheetAnswer {
 fn answered() -> Numbers
     ensures { λ r. ⌜ r ≡ numbersOf (numbered 0) ⌝ }
 {
-    refusals::alone(ANSWERED)
+    reasons::alone(ANSWERED)
 }
 
 // `calls::inverse`.
@@ -91,7 +91,7 @@ pub extern "C" fn kinarsop_inverse(p: u32, a: u32) -> InverseAnswer
             inverse: NO_INVERSE,
         },
         Inverted::Refused(reason) => InverseAnswer {
-            refusal: refusals::as_numbers(reason),
+            refusal: reasons::as_numbers(reason),
             inverse: 0,
         },
     }
@@ -115,7 +115,7 @@ pub extern "C" fn kinarsop_order(
             degree: degree,
         },
         Ordered::Refused(reason) => OrderAnswer {
-            refusal: refusals::as_numbers(reason),
+            refusal: reasons::as_numbers(reason),
             degree: 0,
         },
     }
@@ -136,7 +136,7 @@ pub extern "C" fn kinarsop_image(
 {
     match calls::image(p, n, m, v, f, out) {
         Imaged::Written => answered(),
-        Imaged::Refused(reason) => refusals::as_numbers(reason),
+        Imaged::Refused(reason) => reasons::as_numbers(reason),
     }
 }
 
@@ -173,7 +173,7 @@ pub extern "C" fn kinarsop_stand(
         Stood::Proved(counts) => counted(true, counts, 0),
         Stood::Short(counts, witness) => counted(false, counts, witness),
         Stood::Refused(reason) => StandAnswer {
-            refusal: refusals::as_numbers(reason),
+            refusal: reasons::as_numbers(reason),
             proved: false,
             degree: 0,
             taken: 0,
@@ -202,7 +202,7 @@ pub extern "C" fn kinarsop_chain(
             stages: count,
         },
         Chained::Refused(reason) => ChainAnswer {
-            refusal: refusals::as_numbers(reason),
+            refusal: reasons::as_numbers(reason),
             stages: 0,
         },
     }
@@ -224,7 +224,7 @@ pub extern "C" fn kinarsop_period(p: u32, n: usize, m: &[u8]) -> PeriodAnswer
             period: 0,
         },
         Perioded::Refused(reason) => PeriodAnswer {
-            refusal: refusals::as_numbers(reason),
+            refusal: reasons::as_numbers(reason),
             period: 0,
         },
     }
@@ -242,7 +242,7 @@ pub extern "C" fn kinarsop_sheet(file: &[u8], out: &mut [u8]) -> SheetAnswer
             length: length,
         },
         Sheeted::Refused(reason) => SheetAnswer {
-            refusal: refusals::as_numbers(reason),
+            refusal: reasons::as_numbers(reason),
             length: 0,
         },
     }

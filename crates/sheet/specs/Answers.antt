@@ -3,7 +3,7 @@
 -- Assumes nothing.
 use Prim.Native.Nat.{ℕ}
 use Rattle.meaning.specs.Calls.{Answer, refused, given}
-use Rattle.refusals.specs.Reasons.{asRefusal}
+use Rattle.reasons.specs.Reasons.{asRefusal}
 use Rattle.sheet.specs.declared.Sheeted.{Sheeted}
 use Rattle.sheet.specs.declared.Sheeted.the-variants as sheeted
 

@@ -17,7 +17,7 @@ use casefile::Reading;
 use meaning::COEFFICIENTS;
 use meaning::STAGE_RECORD;
 use meaning::WIDEST;
-use refusals::Reason;
+use reasons::Reason;
 use text::Text;
 
 // A buffer of so many bytes has room for every sheet.

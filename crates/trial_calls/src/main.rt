@@ -8,7 +8,7 @@ mod period;
 mod stand;
 
 use libc::STDIN_FILENO;
-use refusals::Reason;
+use reasons::Reason;
 
 // The number that follows the line's word.
 fn modulus(line: &[u8]) -> u32 {
@@ -22,7 +22,7 @@ fn size(line: &[u8]) -> usize {
 
 // A refusal's number, and where it has one the row and the column of the bad entry.
 fn refuse(reason: Reason) {
-    let numbers = refusals::as_numbers(reason);
+    let numbers = reasons::as_numbers(reason);
     trial_lines::print(b" refused");
     trial_lines::print_byte(numbers.number);
     if numbers.column != 0 {

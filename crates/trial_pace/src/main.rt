@@ -12,14 +12,14 @@ use meaning::CANDIDATE_ROOM;
 use meaning::COEFFICIENTS;
 use meaning::MATRIX_ROOM;
 use meaning::STAGE_RECORD;
-use refusals::Reason;
+use reasons::Reason;
 
 // It pays for every list.
 const ALLOWANCE: u32 = meaning::CANDIDATE_ROOM as u32;
 
 fn refuse(reason: Reason) {
     trial_lines::print(b"REFUSED");
-    trial_lines::print_byte(refusals::as_numbers(reason).number);
+    trial_lines::print_byte(reasons::as_numbers(reason).number);
 }
 
 // What stands behind the mark: the witness, or 0, and the degree.

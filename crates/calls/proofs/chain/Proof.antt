@@ -12,7 +12,7 @@ use Rattle.meaning.proofs.Refusal.{chain-sound}
 use Rattle.meaning.proofs.Called.{refused-by, given-by}
 use Rattle.meaning.specs.Bounds.{widest, coefficients}
 use Rattle.meaning.specs.Chain.{stageRoom}
-use Rattle.refusals.specs.Reasons.{checkedOf}
+use Rattle.reasons.specs.Reasons.{checkedOf}
 use Rattle.calls.proofs.Laws.{chain-written}
 use Rattle.calls.proofs.chain.Statement.{statement}
 use Rattle.calls.proofs.chain.Tie as tie

@@ -13,7 +13,7 @@ use Rattle.meaning.proofs.Refusal.{image-sound}
 use Rattle.meaning.proofs.Called.{refused-by, given-by}
 use Rattle.meaning.proofs.Written.{front-write}
 use Rattle.meaning.specs.Bounds.{widest}
-use Rattle.refusals.specs.Reasons.{checkedOf}
+use Rattle.reasons.specs.Reasons.{checkedOf}
 use Rattle.calls.proofs.image.Statement.{statement}
 use Rattle.calls.proofs.image.Tie as tie
 

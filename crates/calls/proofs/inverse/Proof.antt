@@ -6,7 +6,7 @@ use native.Mathlib.Omega.{arith}
 use borrow.Author.Needs.{needs}
 use Rattle.meaning.specs.Refusal.{inverseRefusal}
 use Rattle.meaning.proofs.Refusal.{inverse-sound}
-use Rattle.refusals.specs.Reasons.{checkedOf}
+use Rattle.reasons.specs.Reasons.{checkedOf}
 use Rattle.meaning.proofs.Called.{refused-by, given-by}
 use Rattle.calls.proofs.inverse.Statement.{statement}
 use Rattle.calls.proofs.inverse.Tie as tie

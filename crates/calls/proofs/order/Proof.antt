@@ -12,7 +12,7 @@ use Rattle.meaning.proofs.Refusal.{order-sound}
 use Rattle.meaning.proofs.Called.{refused-by, given-by}
 use Rattle.meaning.specs.Bounds.{widest, coefficients}
 use Rattle.spin.proofs.Laws.{before-empty, spinned-order}
-use Rattle.refusals.specs.Reasons.{checkedOf}
+use Rattle.reasons.specs.Reasons.{checkedOf}
 use Rattle.calls.proofs.Laws.{order-written}
 use Rattle.calls.proofs.order.Statement.{statement}
 use Rattle.calls.proofs.order.Tie as tie

@@ -7,7 +7,7 @@ use Rattle.meaning.specs.Period.{IsPeriod}
 use Rattle.meaning.specs.Refusal.{periodRefusal}
 use Rattle.meaning.proofs.Refusal.{period-sound}
 use Rattle.period.specs.Returning.{returnsOf}
-use Rattle.refusals.specs.Reasons.{checkedOf}
+use Rattle.reasons.specs.Reasons.{checkedOf}
 use Rattle.meaning.proofs.Called.{refused-by, given-by}
 use Rattle.calls.proofs.period.Statement.{statement}
 use Rattle.calls.proofs.period.Tie as tie

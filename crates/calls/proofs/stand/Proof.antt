@@ -18,7 +18,7 @@ use Rattle.meaning.proofs.Called.{refused-by, given-by}
 use Rattle.meaning.proofs.Standing.{tested-within, standing-proved, standing-short}
 use Rattle.poly.specs.Polynomial.{po}
 use Rattle.witness.specs.Killing.{Killing}
-use Rattle.refusals.specs.Reasons.{checkedOf}
+use Rattle.reasons.specs.Reasons.{checkedOf}
 use Rattle.calls.proofs.Laws.{outcomeOf, stand-written, stand-as}
 use Rattle.calls.proofs.stand.Statement.{statement}
 use Rattle.calls.proofs.stand.Tie as tie

@@ -1,7 +1,7 @@
 -- `refusals::earlier` meets its contract. Assumes nothing.
 use mathlib.Core.Path.{refl, sym, ap, _∙_}
 use Rattle.meaning.proofs.Refusal.{first-here, first-next}
-use Rattle.refusals.specs.Reasons.{checkedOf}
+use Rattle.reasons.specs.Reasons.{checkedOf}
 use Rattle.refusals.proofs.Laws.{one}
 use borrow.Author.Needs.{needs}
 use Rattle.refusals.proofs.earlier.Statement.{statement}

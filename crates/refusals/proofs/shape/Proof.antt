@@ -4,7 +4,7 @@ use mathlib.Core.List.{[], _∷_}
 use mathlib.Core.Option.{none}
 use Rattle.meaning.specs.Refusal.{refuse, noPrime, noSize, first}
 use Rattle.meaning.proofs.Refusal.{first-past, size-told}
-use Rattle.refusals.specs.Reasons.{checkedOf}
+use Rattle.reasons.specs.Reasons.{checkedOf}
 use Rattle.refusals.proofs.Laws.{one, earlier-join, refused-on, passed}
 use borrow.Author.Needs.{needs}
 use Rattle.refusals.proofs.shape.Statement.{statement}

@@ -1,9 +1,9 @@
--- `refusals::as_numbers` meets its contract, reason by reason. Assumes nothing.
+-- `reasons::as_numbers` meets its contract, reason by reason. Assumes nothing.
 use mathlib.Core.Path.{_∙_}
-use Rattle.refusals.proofs.Laws.{by-reason}
+use Rattle.reasons.proofs.Laws.{by-reason}
 use borrow.Author.Needs.{needs}
-use Rattle.refusals.proofs.as_numbers.Statement.{statement}
-use Rattle.refusals.proofs.as_numbers.Tie as tie
+use Rattle.reasons.proofs.as_numbers.Statement.{statement}
+use Rattle.reasons.proofs.as_numbers.Tie as tie
 
 enum-told : tie.Need-enum-told
 enum-told c = search needs

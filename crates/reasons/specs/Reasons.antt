@@ -7,13 +7,13 @@
 use mathlib.Core.Option.{Option, none, some}
 use Rattle.meaning.specs.Entry.{Cell}
 use Rattle.meaning.specs.Refusal.{Refusal, alone, at}
-use Rattle.refusals.specs.declared.Reason.{Reason}
-use Rattle.refusals.specs.declared.Reason.the-variants as reason
-use Rattle.refusals.specs.declared.Numbers.{Numbers}
-use Rattle.refusals.specs.declared.Checked.{Checked}
-use Rattle.refusals.specs.declared.Checked.the-variants as checked
-use Rattle.refusals.specs.declared.BadCell.{BadCell}
-use Rattle.refusals.specs.declared.BadCell.the-variants as badCell
+use Rattle.reasons.specs.declared.Reason.{Reason}
+use Rattle.reasons.specs.declared.Reason.the-variants as reason
+use Rattle.reasons.specs.declared.Numbers.{Numbers}
+use Rattle.reasons.specs.declared.Checked.{Checked}
+use Rattle.reasons.specs.declared.Checked.the-variants as checked
+use Rattle.reasons.specs.declared.BadCell.{BadCell}
+use Rattle.reasons.specs.declared.BadCell.the-variants as badCell
 
 abbrev pub asRefusal : Reason → Refusal
 asRefusal reason.NoPrime = alone 1

@@ -1,10 +1,10 @@
--- `refusals::polynomial` meets its contract. Assumes nothing.
+-- `reasons::polynomial` meets its contract. Assumes nothing.
 use mathlib.Core.Path.{sym}
 use native.Mathlib.Omega.{arith}
 use Rattle.meaning.proofs.Refusal.{noPolynomial-false, polynomial-noPolynomial, refuse-here, refuse-none}
-use Rattle.refusals.proofs.Laws.{applies}
-use Rattle.refusals.proofs.polynomial.Statement.{statement}
-use Rattle.refusals.proofs.polynomial.Tie as tie
+use Rattle.reasons.proofs.Laws.{applies}
+use Rattle.reasons.proofs.polynomial.Statement.{statement}
+use Rattle.reasons.proofs.polynomial.Tie as tie
 
 returns : tie.Need-returns
 returns c = sym (refuse-here (applies _ (λ q. omega (arith, noPolynomial-false _ q))))

@@ -1,10 +1,10 @@
--- `refusals::room` meets its contract. Assumes nothing.
+-- `reasons::room` meets its contract. Assumes nothing.
 use mathlib.Core.Path.{sym}
 use native.Mathlib.Omega.{arith}
 use Rattle.meaning.proofs.Refusal.{tooShort-false, long-tooShort, refuse-here, refuse-none}
-use Rattle.refusals.proofs.Laws.{applies}
-use Rattle.refusals.proofs.room.Statement.{statement}
-use Rattle.refusals.proofs.room.Tie as tie
+use Rattle.reasons.proofs.Laws.{applies}
+use Rattle.reasons.proofs.room.Statement.{statement}
+use Rattle.reasons.proofs.room.Tie as tie
 
 returns : tie.Need-returns
 returns c = sym (refuse-here (applies _ (λ q. omega (arith, tooShort-false _ _ q))))

@@ -1,9 +1,9 @@
--- `refusals::vector` meets its contract. Assumes nothing.
+-- `reasons::vector` meets its contract. Assumes nothing.
 use mathlib.Core.Path.{sym}
 use Rattle.meaning.proofs.Refusal.{noVector-false, vector-noVector, refuse-here, refuse-none}
-use Rattle.refusals.proofs.Laws.{applies}
-use Rattle.refusals.proofs.vector.Statement.{statement}
-use Rattle.refusals.proofs.vector.Tie as tie
+use Rattle.reasons.proofs.Laws.{applies}
+use Rattle.reasons.proofs.vector.Statement.{statement}
+use Rattle.reasons.proofs.vector.Tie as tie
 
 returns : tie.Need-returns
 returns c = sym (refuse-here (applies _ (λ q. c .if1 .taken (noVector-false _ _ q))))

@@ -1,14 +1,14 @@
--- `refusals::candidates` meets its contract. Assumes nothing.
+-- `reasons::candidates` meets its contract. Assumes nothing.
 use mathlib.Core.Path.{_≡_, sym}
 use Prim.Native.Nat.{_/_, _%_, _≤_}
 use native.Mathlib.Omega.{arith}
 use lib.ListN.{length}
 use Rattle.meaning.proofs.Refusal.{noRows-false, rows-noRows, rows-over, rows-whole, refuse-here, refuse-none}
 use Rattle.meaning.specs.Bounds.{mostCandidates}
-use Rattle.refusals.proofs.Laws.{applies}
+use Rattle.reasons.proofs.Laws.{applies}
 use borrow.Author.Needs.{needs}
-use Rattle.refusals.proofs.candidates.Statement.{statement}
-use Rattle.refusals.proofs.candidates.Tie as tie
+use Rattle.reasons.proofs.candidates.Statement.{statement}
+use Rattle.reasons.proofs.candidates.Tie as tie
 
 rem-if1 : tie.Need-rem-if1
 rem-if1 c = search needs

@@ -1,4 +1,4 @@
--- `refusals::coefficient` meets its contract: the cell is that of the place. Assumes nothing.
+-- `reasons::coefficient` meets its contract: the cell is that of the place. Assumes nothing.
 use mathlib.Core.Path.{_≡_, sym, ap, _∙_}
 use mathlib.Core.Option.{some, Option·map}
 use native.Mathlib.Omega.{arith}
@@ -6,10 +6,10 @@ use Rattle.meaning.specs.Entry.{firstBad}
 use Rattle.meaning.specs.Refusal.{at, refuseAt, badCoefficient}
 use Rattle.meaning.proofs.Entry.{firstBad-place}
 use Rattle.rows.specs.Row.{placeOf}
-use Rattle.refusals.proofs.Laws.{nowhere, coefficient-placed}
+use Rattle.reasons.proofs.Laws.{nowhere, coefficient-placed}
 use borrow.Author.Needs.{needs}
-use Rattle.refusals.proofs.coefficient.Statement.{statement}
-use Rattle.refusals.proofs.coefficient.Tie as tie
+use Rattle.reasons.proofs.coefficient.Statement.{statement}
+use Rattle.reasons.proofs.coefficient.Tie as tie
 
 -- the place that was found
 found : (c : tie.After-known-told) → let x = c .before .before .before .before .before .args in firstBad (x .p) (x .f .now) ≡ some (c .before .i .given .0 .0)

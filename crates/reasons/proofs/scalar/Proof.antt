@@ -1,4 +1,4 @@
--- `refusals::scalar` meets its contract: a scalar is like the one coefficient of a list. Assumes nothing.
+-- `reasons::scalar` meets its contract: a scalar is like the one coefficient of a list. Assumes nothing.
 use mathlib.Core.Path.{sym}
 use mathlib.Core.List.{[], _∷_}
 use native.Mathlib.Nat.{zero-lt-suc, not-suc-le-zero}
@@ -6,9 +6,9 @@ use native.Mathlib.Omega.{arith}
 use Rattle.meaning.specs.Refusal.{badScalar}
 use Rattle.meaning.proofs.Entry.{BadAt, firstBad-at}
 use Rattle.meaning.proofs.Refusal.{scalar-none}
-use Rattle.refusals.proofs.Laws.{coefficient-placed}
-use Rattle.refusals.proofs.scalar.Statement.{statement}
-use Rattle.refusals.proofs.scalar.Tie as tie
+use Rattle.reasons.proofs.Laws.{coefficient-placed}
+use Rattle.reasons.proofs.scalar.Statement.{statement}
+use Rattle.reasons.proofs.scalar.Tie as tie
 
 returns : tie.Need-returns
 unfolding badScalar

@@ -1,4 +1,4 @@
--- `refusals::bad_entry` meets its contract: the cell is that of the place. Assumes nothing.
+-- `reasons::bad_entry` meets its contract: the cell is that of the place. Assumes nothing.
 use mathlib.Core.Path.{_≡_, sym, ap, _∙_}
 use mathlib.Core.Option.{some}
 use native.Mathlib.Nat.{div-le-self, mod-le}
@@ -7,10 +7,10 @@ use Rattle.meaning.specs.Entry.{firstBad}
 use Rattle.meaning.specs.Refusal.{badEntry}
 use Rattle.meaning.proofs.Entry.{firstBad-place}
 use Rattle.rows.specs.Row.{placeOf}
-use Rattle.refusals.proofs.Laws.{placed, nowhere}
+use Rattle.reasons.proofs.Laws.{placed, nowhere}
 use borrow.Author.Needs.{needs}
-use Rattle.refusals.proofs.bad_entry.Statement.{statement}
-use Rattle.refusals.proofs.bad_entry.Tie as tie
+use Rattle.reasons.proofs.bad_entry.Statement.{statement}
+use Rattle.reasons.proofs.bad_entry.Tie as tie
 
 -- the place that was found
 found : (c : tie.After-known-told) → let x = c .before .before .before .before .before .args in firstBad (x .p) (x .s .now) ≡ some (c .before .i .given .0 .0)

@@ -1,10 +1,10 @@
--- `refusals::row_entry` meets its contract: what was found, with the number 10. Assumes nothing.
+-- `reasons::row_entry` meets its contract: what was found, with the number 10. Assumes nothing.
 use mathlib.Core.Path.{sym, ap, _∙_}
 use Rattle.meaning.specs.Refusal.{refuseAt}
-use Rattle.refusals.specs.Reasons.{cellOf}
+use Rattle.reasons.specs.Reasons.{cellOf}
 use borrow.Author.Needs.{needs}
-use Rattle.refusals.proofs.row_entry.Statement.{statement}
-use Rattle.refusals.proofs.row_entry.Tie as tie
+use Rattle.reasons.proofs.row_entry.Statement.{statement}
+use Rattle.reasons.proofs.row_entry.Tie as tie
 
 bad-entry-requires : tie.Need-bad-entry-requires
 bad-entry-requires c κs = search needs

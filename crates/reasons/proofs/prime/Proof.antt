@@ -1,9 +1,9 @@
--- `refusals::prime` meets its contract: the code's prime test is that of the refusal table. Assumes nothing.
+-- `reasons::prime` meets its contract: the code's prime test is that of the refusal table. Assumes nothing.
 use mathlib.Core.Path.{sym}
 use Rattle.meaning.proofs.Refusal.{prime-told, refuse-here, refuse-none}
 use borrow.Author.Needs.{needs}
-use Rattle.refusals.proofs.prime.Statement.{statement}
-use Rattle.refusals.proofs.prime.Tie as tie
+use Rattle.reasons.proofs.prime.Statement.{statement}
+use Rattle.reasons.proofs.prime.Tie as tie
 
 is-prime-requires : tie.Need-is-prime-requires
 is-prime-requires c κs = search needs

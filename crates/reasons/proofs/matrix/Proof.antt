@@ -1,13 +1,13 @@
--- `refusals::matrix` meets its contract. Assumes nothing.
+-- `reasons::matrix` meets its contract. Assumes nothing.
 use mathlib.Core.Path.{sym}
 use Prim.Native.Nat.{_≤_, _*_}
 use native.Mathlib.Nat.{mul-le-mul}
 use native.Mathlib.Omega.{arith}
 use Rattle.meaning.proofs.Refusal.{noMatrix-false, matrix-noMatrix, refuse-here, refuse-none}
 use Rattle.meaning.specs.Bounds.{widest}
-use Rattle.refusals.proofs.Laws.{applies}
-use Rattle.refusals.proofs.matrix.Statement.{statement}
-use Rattle.refusals.proofs.matrix.Tie as tie
+use Rattle.reasons.proofs.Laws.{applies}
+use Rattle.reasons.proofs.matrix.Statement.{statement}
+use Rattle.reasons.proofs.matrix.Tie as tie
 
 mul-if1 : tie.Need-mul-if1
 mul-if1 c =

@@ -1,10 +1,10 @@
--- `refusals::size` meets its contract. Assumes nothing.
+-- `reasons::size` meets its contract. Assumes nothing.
 use mathlib.Core.Path.{sym}
 use native.Mathlib.Omega.{arith}
 use Rattle.meaning.proofs.Refusal.{noSize-false, size-noSize, refuse-here, refuse-none}
-use Rattle.refusals.proofs.Laws.{applies}
-use Rattle.refusals.proofs.size.Statement.{statement}
-use Rattle.refusals.proofs.size.Tie as tie
+use Rattle.reasons.proofs.Laws.{applies}
+use Rattle.reasons.proofs.size.Statement.{statement}
+use Rattle.reasons.proofs.size.Tie as tie
 
 returns : tie.Need-returns
 returns c = sym (refuse-here (applies _ (λ q. omega (arith, noSize-false _ q))))
