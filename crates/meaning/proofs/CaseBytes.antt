@@ -1,5 +1,6 @@
 -- The bytes of a case: how many there are, and that they tell which case it is.
---   case-length      the length of a case, by its A record, n and the number of candidates
+--   parts-length     the length of a case, by its A record, its rows and its candidates
+--   case-length      by n and the number of candidates
 --   case-longest     01: "The longest case has 12,682 bytes."
 --   case-unique      two cases with the same bytes are the same
 -- Assumes nothing.
@@ -42,7 +43,7 @@ unfolding flat recordBytes
 allow-most none = omega arith
 allow-most (some a) = omega arith
 
-parts-length : (p n : ℕ) (a : Option (ℕ × ℕ)) (xs ys : List (List ℕ)) → RowsOf p n xs → RowsOf p n ys
+pub parts-length : (p n : ℕ) (a : Option (ℕ × ℕ)) (xs ys : List (List ℕ)) → RowsOf p n xs → RowsOf p n ys
     → length (flat (field p n ∷ (allowRecord a ++ (map row xs ++ (map candidate ys ++ (end ∷ []))))))
     ≡ 4 + (length (flat (allowRecord a)) + (length xs * (n + 2) + (length ys * (n + 2) + 2)))
 unfolding flat recordBytes

@@ -14,6 +14,7 @@ pub mod Flat
 pub mod CaseBytes
 pub mod Place
 pub mod Case
+pub mod Writing
 pub mod LongFile
 pub mod Line
 pub mod Print

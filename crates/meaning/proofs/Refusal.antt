@@ -2,10 +2,11 @@
 --   isPrime-prime, prime-isPrime   the prime test is right, both ways
 --   prime-positive   a prime is above 0
 --   prime-told       test 1, from what a prime test said
---   noPrime-false, noSize-false, noMatrix-false, noRows-false, noVector-false, noPolynomial-false, tooShort-false
+--   noPrime-false, noSize-false, noMatrix-false, noRows-false, noVector-false, noPolynomial-false, noAllowance-false, tooShort-false
 --                    where a test does not apply, what it looks at is good
---   prime-noPrime, size-noSize, matrix-noMatrix, rows-noRows, vector-noVector, polynomial-noPolynomial, long-tooShort
+--   prime-noPrime, size-noSize, matrix-noMatrix, rows-noRows, vector-noVector, polynomial-noPolynomial, allowance-noAllowance, long-tooShort
 --                    and where that is good, the test does not apply
+--   noAllowance-true, tooShort-true   where it is bad, the test applies
 --   rows-over, rows-whole   whole rows leave no rest, and the other way round
 --   small-append     bytes below p behind bytes below p
 --   refuse-here, refuse-none   what a test gives where it applies, and where it does not
@@ -16,8 +17,10 @@
 --   size-told        n is 1 to 64 where tests 1 and 2 do not apply
 --   none-entries, entries-none, none-coefficients, none-scalar, scalar-none   entries are good exactly where their test does not apply
 --   inverse-sound, order-sound, image-sound, stand-sound, chain-sound, period-sound   what is known of an input that the call does not refuse
+--   list-sound       the same of the tests that every call on a list of rows runs first
 --   AllNone, none-first   no test of a list applies, and so nothing is refused
---   sound-shape, sound-rows   the tests that calls on a matrix share, and those that stand and chain share
+--   list-past        where what the tests on a list of rows look at is sound, those behind them decide
+--   sound-shape, sound-list, sound-rows   the tests that calls on a matrix share, those on a list of rows, those that stand and chain share
 --   sound-inverse, sound-stand, sound-chain, sound-period   sound inputs with buffers that are long enough are not refused
 -- Assumes nothing.
 use mathlib.Core.Path.{_≡_, refl, sym, ap, _∙_}
@@ -31,14 +34,14 @@ use native.Mathlib.Decide.{decLe}
 use native.Mathlib.Omega.{arith}
 use lib.ListN.{length, getD}
 use lib.Dec.{leb, eqb}
-use borrow.Author.Tests.{ltb-false, leb-true, eqb-true, eqb-false, not-true, not-false, le-ltb, le-leb, lt-leb, eq-eqb, ne-eqb}
+use borrow.Author.Tests.{ltb-false, leb-true, eqb-true, eqb-false, not-true, not-false, le-ltb, lt-ltb, le-leb, lt-leb, eq-eqb, ne-eqb}
 use Rattle.algebra.specs.Field.{Prime}
 use Rattle.meaning.specs.Refusal.{Refusal, alone, refuse, refuseAt, allBelow, isPrime, noPrime, noSize, noMatrix, noRows, noVector, noPolynomial, badEntry}
-use Rattle.meaning.specs.Refusal.{badCoefficient, badScalar, tooShort, first}
+use Rattle.meaning.specs.Refusal.{badCoefficient, badScalar, noAllowance, tooShort, first}
 use Rattle.meaning.specs.Refusal.{inverseRefusal, orderRefusal, imageRefusal, standRefusal, chainRefusal, periodRefusal}
 use Rattle.meaning.specs.Entry.{Cell}
 use Rattle.meaning.specs.Bytes.{Small}
-use Rattle.meaning.specs.Bounds.{largestPrime, mostCandidates, coefficients, widest, Sound, SoundRows}
+use Rattle.meaning.specs.Bounds.{largestPrime, mostCandidates, coefficients, widest, mostAllowance, Sound, SoundRows}
 use Rattle.meaning.specs.Chain.{stageRoom}
 use Rattle.meaning.proofs.Entry.{badCell-none, small-badCell}
 
@@ -167,6 +170,22 @@ pub long-tooShort : (k : ℕ) (out : List ℕ) → k ≤ length out → tooShort
 unfolding tooShort
 long-tooShort k out h = le-ltb (length out) k h
 
+pub noAllowance-false : (a : ℕ) → noAllowance a ≡ false → a ≤ mostAllowance
+unfolding noAllowance
+noAllowance-false a q = ltb-false mostAllowance a q
+
+pub allowance-noAllowance : (a : ℕ) → a ≤ mostAllowance → noAllowance a ≡ false
+unfolding noAllowance
+allowance-noAllowance a h = le-ltb mostAllowance a h
+
+pub noAllowance-true : (a : ℕ) → mostAllowance < a → noAllowance a ≡ true
+unfolding noAllowance
+noAllowance-true a h = lt-ltb mostAllowance a h
+
+pub tooShort-true : (k : ℕ) (out : List ℕ) → length out < k → tooShort k out ≡ true
+unfolding tooShort
+tooShort-true k out h = lt-ltb (length out) k h
+
 -- what a test gives
 pub refuse-here : {k : ℕ} {b : Bool} → b ≡ true → refuse k b ≡ some (alone k)
 unfolding refuse
@@ -176,7 +195,7 @@ pub refuse-none : (k : ℕ) {b : Bool} → b ≡ false → refuse k b ≡ none
 unfolding refuse
 refuse-none k e = rw e
 
-none-refuse : (k : ℕ) (b : Bool) → refuse k b ≡ none → b ≡ false
+pub none-refuse : (k : ℕ) (b : Bool) → refuse k b ≡ none → b ≡ false
 unfolding refuse
 none-refuse k true q = absurd (Option·none-ne-some (alone k) (sym q))
 none-refuse k false q = refl
@@ -220,7 +239,7 @@ first-none (some q) ts e = absurd (Option·none-ne-some q (sym e))
 first-none none ts e = (refl, e)
 
 -- where nothing is refused, test i of the list does not apply, counted from 0
-first-clear : (ts : List (Option Refusal)) → first ts ≡ none → (i : ℕ) → getD ts i none ≡ none
+pub first-clear : (ts : List (Option Refusal)) → first ts ≡ none → (i : ℕ) → getD ts i none ≡ none
 first-clear [] q i = refl
 first-clear (t ∷ ts) q zero = first-none t ts q .0
 first-clear (t ∷ ts) q (suc i) = first-clear ts (first-none t ts q .1) i
@@ -265,6 +284,16 @@ sound p n m a b c d =
       entries = none-entries 5 p n m d;
     }
 
+-- what the tests before the buffers say of a call that takes a list of rows
+pub list-sound : (p n : ℕ) (m cs : List ℕ) (ts : List (Option Refusal))
+    → first (refuse 1 (noPrime p) ∷ refuse 2 (noSize n) ∷ refuse 3 (noMatrix n m) ∷ refuse 4 (noRows n cs)
+    ∷ refuseAt 5 (badEntry p n m) ∷ refuseAt 10 (badEntry p n cs) ∷ ts) ≡ none → Sound p n m × SoundRows p n cs
+list-sound p n m cs ts q =
+    let c = first-clear _ q in
+    let A = sound p n m (c 0) (c 1) (c 2) (c 4) in
+    let r = noRows-false n cs (A .some-size) (none-refuse 4 _ (c 3)) in
+    (A, record { whole = r .0; few = r .1; entries = none-entries 10 p n cs (c 5) })
+
 -- the tests of stand and chain, which lend two buffers
 rows-sound : (p n : ℕ) (m cs : List ℕ) (j : ℕ) (a : List ℕ) (k : ℕ) (b : List ℕ)
     → first (refuse 1 (noPrime p) ∷ refuse 2 (noSize n) ∷ refuse 3 (noMatrix n m) ∷ refuse 4 (noRows n cs)
@@ -273,9 +302,8 @@ rows-sound : (p n : ℕ) (m cs : List ℕ) (j : ℕ) (a : List ℕ) (k : ℕ) (b
 rows-sound p n m cs j a k b q =
     let c = first-clear _ q in
     let s = or-false (tooShort j a) (tooShort k b) (none-refuse 6 _ (c 6)) in
-    let A = sound p n m (c 0) (c 1) (c 2) (c 4) in
-    let r = noRows-false n cs (A .some-size) (none-refuse 4 _ (c 3)) in
-    (A, record { whole = r .0; few = r .1; entries = none-entries 10 p n cs (c 5) }, tooShort-false j a (s .0), tooShort-false k b (s .1))
+    let (A, B) = list-sound p n m cs _ q in
+    (A, B, tooShort-false j a (s .0), tooShort-false k b (s .1))
 
 pub inverse-sound : (p a : ℕ) → inverseRefusal p a ≡ none → Prime p × (p ≤ largestPrime) × (a < p)
 unfolding inverseRefusal
@@ -318,12 +346,11 @@ period-sound p n m q =
     sound p n m (c 0) (c 1) (c 2) (c 3)
 
 -- and the other way round: sound inputs are not refused by the calls that a sheet makes
-AllNone : List (Option Refusal) → Type 0
+abbrev pub AllNone : List (Option Refusal) → Type 0
 AllNone [] = Unit {0}
 AllNone (t ∷ ts) = (t ≡ none) × AllNone ts
 
 none-first : (ts : List (Option Refusal)) → AllNone ts → first ts ≡ none
-unfolding AllNone
 none-first [] h = first-end
 none-first (t ∷ ts) h = first-next t ts (h .0) ∙ none-first ts (h .1)
 
@@ -332,15 +359,26 @@ sound-shape : (p n : ℕ) (m : List ℕ) → Sound p n m → (refuse 1 (noPrime 
 sound-shape p n m A =
     (refuse-none 1 (prime-noPrime p (A .prime) (A .most)), refuse-none 2 (size-noSize n (A .some-size) (A .size)), refuse-none 3 (matrix-noMatrix n m (A .matrix)))
 
+-- those that every call on a list of rows runs first
+pub sound-list : (p n : ℕ) (m cs : List ℕ) (ts : List (Option Refusal)) → Sound p n m → SoundRows p n cs → AllNone ts
+    → first (refuse 1 (noPrime p) ∷ refuse 2 (noSize n) ∷ refuse 3 (noMatrix n m) ∷ refuse 4 (noRows n cs)
+    ∷ refuseAt 5 (badEntry p n m) ∷ refuseAt 10 (badEntry p n cs) ∷ ts) ≡ none
+sound-list p n m cs ts A B h =
+    let (x, y, z) = sound-shape p n m A in
+    let whole = refuse-none 4 (rows-noRows n cs (A .some-size) _ (B .whole) (B .few)) in
+    none-first _ (x, (y, (z, (whole, (entries-none 5 p n m (A .entries), (entries-none 10 p n cs (B .entries), h))))))
+
+pub list-past : (p n : ℕ) (m cs : List ℕ) (ts : List (Option Refusal)) → Sound p n m → SoundRows p n cs
+    → first (refuse 1 (noPrime p) ∷ refuse 2 (noSize n) ∷ refuse 3 (noMatrix n m) ∷ refuse 4 (noRows n cs)
+    ∷ refuseAt 5 (badEntry p n m) ∷ refuseAt 10 (badEntry p n cs) ∷ ts) ≡ first ts
+list-past p n m cs ts A B = first-past (_ ∷ _ ∷ _ ∷ _ ∷ _ ∷ _ ∷ []) ts (sound-list p n m cs [] A B tt)
+
 sound-rows : (p n : ℕ) (m cs : List ℕ) (j : ℕ) (a : List ℕ) (k : ℕ) (b : List ℕ) → Sound p n m → SoundRows p n cs → j ≤ length a → k ≤ length b
     → first (refuse 1 (noPrime p) ∷ refuse 2 (noSize n) ∷ refuse 3 (noMatrix n m) ∷ refuse 4 (noRows n cs)
     ∷ refuseAt 5 (badEntry p n m) ∷ refuseAt 10 (badEntry p n cs) ∷ refuse 6 (tooShort j a || tooShort k b) ∷ []) ≡ none
-unfolding AllNone
 sound-rows p n m cs j a k b A B h i =
-    let (x, y, z) = sound-shape p n m A in
-    let whole = refuse-none 4 (rows-noRows n cs (A .some-size) _ (B .whole) (B .few)) in
     let room : refuse 6 (tooShort j a || tooShort k b) ≡ none = refuse-none 6 (rw (long-tooShort j a h, long-tooShort k b i)) in
-    none-first _ (x, (y, (z, (whole, (entries-none 5 p n m (A .entries), (entries-none 10 p n cs (B .entries), (room, tt)))))))
+    sound-list p n m cs _ A B (room, tt)
 
 pub sound-stand : (p n : ℕ) (m cs poly image : List ℕ) → Sound p n m → SoundRows p n cs → n + 1 ≤ length poly → n ≤ length image
     → standRefusal p n m cs poly image ≡ none
@@ -353,11 +391,11 @@ unfolding chainRefusal
 sound-chain p n m cs product stages = sound-rows p n m cs (n + 1) product (stageRoom n) stages
 
 pub sound-inverse : (p a : ℕ) → isPrime p ≡ true → a < p → inverseRefusal p a ≡ none
-unfolding inverseRefusal AllNone noPrime
+unfolding inverseRefusal noPrime
 sound-inverse p a P h = none-first _ (refuse-none 1 (rw P), (scalar-none 11 p a h, tt))
 
 pub sound-period : (p n : ℕ) (m : List ℕ) → Sound p n m → periodRefusal p n m ≡ none
-unfolding periodRefusal AllNone
+unfolding periodRefusal
 sound-period p n m A =
     let (x, y, z) = sound-shape p n m A in
     none-first _ (x, (y, (z, (entries-none 5 p n m (A .entries), tt))))

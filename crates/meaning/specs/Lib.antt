@@ -9,6 +9,7 @@ pub mod Entry
 pub mod Refusal
 pub mod Calls
 pub mod Case
+pub mod Writing
 pub mod Ascii
 pub mod Line
 pub mod Sheet

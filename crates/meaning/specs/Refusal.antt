@@ -1,4 +1,4 @@
--- The refusal table (01, "Refusal numbers"; 02, #102): for each call the refusal of the first test that applies, in the table's order, or none.
+-- The refusal table (01, "Refusal numbers"; 02, #101 and #102): for each call the refusal of the first test that applies, in the table's order, or none.
 --   Refusal            a number alone, or, where an entry is bad, a number with the entry's row and column
 --   refuse k b         the refusal with the number k where the test b applies
 --   refuseAt k o       the refusal with the number k and the cell in o, where there is one
@@ -13,9 +13,11 @@
 --   badEntry p n l     tests 5 and 10: the first bad entry of a matrix, of candidates or of one vector; rows are counted from 1
 --   badCoefficient p f   test 11: the first bad coefficient, in row 0; the lowest is in column 1
 --   badScalar p a      test 11 of a scalar: it is like the one coefficient of a list
+--   noAllowance a      test 9: the allowance is over 16,383
 --   tooShort k out     test 6: a result buffer is shorter than k
 --   first ts           what the first test that applies gives, or none
---   inverseRefusal, orderRefusal, imageRefusal, standRefusal, chainRefusal, periodRefusal   the refusal of each call
+--   inverseRefusal, orderRefusal, imageRefusal, standRefusal, chainRefusal, periodRefusal   the refusal of each call; that of the writer is in
+--                      `Writing`
 -- Assumes nothing.
 use mathlib.Core.Bool.{Bool, true, false, not, _&&_, _||_}
 use mathlib.Core.List.{List, [], _∷_}
@@ -23,7 +25,7 @@ use mathlib.Core.Option.{Option, none, some, Option·map}
 use Prim.Native.Nat.{ℕ, zero, suc, _+_, _*_, _/_, _%_}
 use lib.ListN.{length}
 use lib.Dec.{leb, ltb, eqb}
-use Rattle.meaning.specs.Bounds.{largestPrime, widest, coefficients, mostCandidates}
+use Rattle.meaning.specs.Bounds.{largestPrime, widest, coefficients, mostCandidates, mostAllowance}
 use Rattle.meaning.specs.Chain.{stageRoom}
 use Rattle.meaning.specs.Entry.{Cell, badCell}
 
@@ -71,6 +73,9 @@ badCoefficient p f = badCell 0 p (length f) f
 
 unfoldable pub badScalar : ℕ → ℕ → Option Cell
 badScalar p a = badCoefficient p (a ∷ [])
+
+unfoldable pub noAllowance : ℕ → Bool
+noAllowance a = ltb mostAllowance a
 
 unfoldable pub tooShort : ℕ → List ℕ → Bool
 tooShort k out = ltb (length out) k

@@ -23,3 +23,6 @@ pub const STAGE_RECORD: usize = 2 * WIDEST;
 
 // The base to which a case file has the two halves of its allowance.
 pub const RADIX: u32 = 128;
+
+// The largest allowance that the two halves hold.
+pub const MOST_ALLOWANCE: u32 = RADIX * RADIX - 1;
