@@ -24,6 +24,7 @@ asRefusal reason.NoPolynomial = alone 7
 asRefusal (reason.MatrixEntry row column) = at 5 row column
 asRefusal (reason.RowEntry row column) = at 10 row column
 asRefusal (reason.Coefficient column) = at 11 0 column
+asRefusal reason.NoAllowance = alone 9
 asRefusal reason.NoRoom = alone 6
 
 abbrev pub numbersOf : Refusal → Numbers

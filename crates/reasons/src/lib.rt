@@ -2,10 +2,11 @@
 ghost use mathlib.Core.Path.{_≡_};
 ghost use Prim.Native.Nat.{_<_, _≤_};
 ghost use Rattle.meaning.specs.Refusal.{refuse, refuseAt, noPrime, noSize, noMatrix, noRows, noVector, noPolynomial, badEntry, badCoefficient};
-ghost use Rattle.meaning.specs.Refusal.{badScalar, tooShort, alone as numbered};
+ghost use Rattle.meaning.specs.Refusal.{badScalar, noAllowance, tooShort, alone as numbered};
 ghost use Rattle.meaning.specs.Bounds.{widest};
 ghost use Rattle.reasons.specs.Reasons.{asRefusal, numbersOf, checkedOf, cellOf};
 use meaning::COEFFICIENTS;
+use meaning::MOST_ALLOWANCE;
 use meaning::MOST_CANDIDATES;
 use meaning::WIDEST;
 use rows::Found;
@@ -21,6 +22,7 @@ pub enum Reason {
     MatrixEntry(usize, usize),
     RowEntry(usize, usize),
     Coefficient(usize),
+    NoAllowance,
     NoRoom,
 }
 
@@ -80,6 +82,7 @@ pub fn as_numbers(reason: Reason) -> Numbers
             row: 0,
             column: column,
         },
+        Reason::NoAllowance => alone(9),
         Reason::NoRoom => alone(6),
     }
 }
@@ -204,6 +207,16 @@ pub fn scalar(p: u32, a: u32) -> Checked
 {
     if p <= a {
         return Checked::Refused(Reason::Coefficient(1));
+    }
+    Checked::Passed
+}
+
+// Test 9.
+pub fn allowance(a: u32) -> Checked
+    ensures { λ r. ⌜ checkedOf r ≡ refuse 9 (noAllowance a) ⌝ }
+{
+    if MOST_ALLOWANCE < a {
+        return Checked::Refused(Reason::NoAllowance);
     }
     Checked::Passed
 }

@@ -1,10 +1,19 @@
 // The refusal table: for each call the reason of the first test that applies, in the table's order.
 ghost use mathlib.Core.Path.{_≡_};
 ghost use mathlib.Core.List.{[], _∷_};
+ghost use Prim.Native.Nat.{_+_, _*_, _≤_};
+ghost use Rattle.meaning.specs.Bounds.{widest, mostCandidates};
 ghost use Rattle.meaning.specs.Refusal.{refuse, refuseAt, noPrime, noSize, noMatrix, noRows, badEntry, first};
 ghost use Rattle.meaning.specs.Refusal.{inverseRefusal, orderRefusal, imageRefusal, standRefusal, chainRefusal, periodRefusal};
+ghost use Rattle.meaning.specs.Writing.{writeRefusal};
 ghost use Rattle.reasons.specs.Reasons.{checkedOf};
 use reasons::Checked;
+
+// The bytes of a case that are no row's: four of F, four of A and two of E.
+const FRAME: usize = 10;
+
+// What comes before the entries of a row: the mark and the letter.
+const TAG: usize = 2;
 
 // Of two tests the one that is due: the first is tested earlier.
 fn earlier(a: Checked, b: Checked) -> Checked
@@ -112,5 +121,27 @@ pub fn of_period(p: u32, n: usize, m: &[u8]) -> Checked
     match shape(p, n, m) {
         Checked::Refused(reason) => Checked::Refused(reason),
         Checked::Passed => reasons::matrix_entry(p, n, m),
+    }
+}
+
+// The length of a case with n rows, `count` candidates and an A record.
+fn case_length(n: usize, count: usize) -> usize
+    requires { ⌜ (n ≤ widest) × (count ≤ mostCandidates) ⌝ }
+    ensures { λ r. ⌜ r ≡ 10 + (n + count) * (n + 2) ⌝ }
+{
+    FRAME + (n + count) * (n + TAG)
+}
+
+// The refusal of the writer: the allowance is tested before the buffer, which is to hold the case.
+pub fn of_write(p: u32, n: usize, m: &[u8], cs: &[u8], allowance: u32, out: &[u8]) -> Checked
+    ensures { λ r. ⌜ checkedOf r ≡ writeRefusal p n (now (m .entry)) (now (cs .entry)) allowance (now (out .entry)) ⌝ }
+{
+    match list(p, n, m, cs) {
+        Checked::Refused(reason) => Checked::Refused(reason),
+        Checked::Passed => {
+            let over = reasons::allowance(allowance);
+            let short = reasons::room(case_length(n, cs.len() / n), out);
+            earlier(over, short)
+        }
     }
 }

@@ -50,6 +50,12 @@ enum-told-6 c = search needs
 alone-requires-6 : tie.Need-alone-requires-6
 alone-requires-6 c κs = search needs
 
+enum-told-7 : tie.Need-enum-told-7
+enum-told-7 c = search needs
+
+alone-requires-7 : tie.Need-alone-requires-7
+alone-requires-7 c κs = search needs
+
 returns : tie.Need-returns
 returns c = c .alone .ensures ∙ by-reason (c .before .enum-told .given .1)
 
@@ -77,6 +83,9 @@ returns-8 c = by-reason (c .before .reason3 .given .1)
 returns-9 : tie.Need-returns-9
 returns-9 c = c .alone6 .ensures ∙ by-reason (c .before .enum-told6 .given .1)
 
+returns-10 : tie.Need-returns-10
+returns-10 c = c .alone7 .ensures ∙ by-reason (c .before .enum-told7 .given .1)
+
 pub as-numbers-spec : {M : Type 1} → statement M
 as-numbers-spec =
     tie.close
@@ -96,6 +105,8 @@ as-numbers-spec =
     enum-known-reason-3
     enum-told-6
     alone-requires-6
+    enum-told-7
+    alone-requires-7
     returns
     returns-2
     returns-3
@@ -104,4 +115,5 @@ as-numbers-spec =
     returns-6
     returns-7
     returns-8
-    returns-9)
+    returns-9
+    returns-10)
