@@ -7,7 +7,8 @@
 --   period-only, standing-only, marked-false   and so are a period, a standing and a mark
 --   field-path         so a struct of a refusal and one number more is known by how it is read
 --   stand-fields       and so is the stand's
---   face-inverse-once, face-order-once, face-image-once, face-stand-once, face-chain-once, face-period-once, face-sheet-once
+--   face-inverse-once, face-order-once, face-image-once, face-stand-once, face-chain-once, face-period-once, face-sheet-once,
+--   face-write-once
 --                      any two permitted answers and buffer contents are the same
 -- Assumes nothing.
 use mathlib.Core.Path.{_≡_, refl, sym, ap, ap₂, _∙_}
@@ -22,18 +23,20 @@ use Rattle.meaning.specs.Stand.{Outcome}
 use Rattle.meaning.specs.Refusal.{alone}
 use Rattle.meaning.specs.Calls.{Answer, refused, given, InverseCall, OrderCall, ImageCall, StandCall, ChainCall, PeriodCall}
 use Rattle.meaning.specs.Sheet.{SheetCall}
+use Rattle.meaning.specs.Writing.{WriteCall}
 use Rattle.meaning.proofs.Called.{refused-given}
-use Rattle.promises.proofs.Calls.{inverse-unique, order-unique, image-unique, stand-unique, chain-unique, period-unique}
+use Rattle.promises.proofs.Calls.{inverse-unique, order-unique, image-unique, stand-unique, chain-unique, period-unique, write-unique}
 use Rattle.reasons.specs.Reasons.{numbersOf}
 use Rattle.reasons.specs.declared.Numbers.{Numbers}
 use Rattle.kinarsop.specs.Face.{hasPlace, refusalIn, readAs, Placeless, Alone, standingIn, noInverse, inverseIn, periodIn}
-use Rattle.kinarsop.specs.Face.{inverseRead, orderRead, imageRead, standNumbers, outcomeIn, standRead, chainRead, periodRead, sheetRead}
+use Rattle.kinarsop.specs.Face.{inverseRead, orderRead, imageRead, standNumbers, outcomeIn, standRead, chainRead, periodRead, sheetRead, writeRead}
 use Rattle.kinarsop.specs.declared.InverseAnswer.{InverseAnswer}
 use Rattle.kinarsop.specs.declared.OrderAnswer.{OrderAnswer}
 use Rattle.kinarsop.specs.declared.StandAnswer.{StandAnswer}
 use Rattle.kinarsop.specs.declared.ChainAnswer.{ChainAnswer}
 use Rattle.kinarsop.specs.declared.PeriodAnswer.{PeriodAnswer}
 use Rattle.kinarsop.specs.declared.SheetAnswer.{SheetAnswer}
+use Rattle.kinarsop.specs.declared.WriteAnswer.{WriteAnswer}
 use Rattle.answers.proofs.Unique.{given-only, proved-short}
 use Rattle.answers.proofs.Sheet.{sheet-call-unique}
 
@@ -180,4 +183,10 @@ pub face-sheet-once : (r s : SheetAnswer) {file old x y : List ℕ} → SheetCal
     → SheetCall file old (sheetRead s) y → Alone (s .refusal) (s .length ∷ []) → (r ≡ s) × (x ≡ y)
 face-sheet-once r s C A D B =
     let (e, f) = sheet-call-unique C D in
+    (field-path (λ k x. record { refusal = k; length = x }) _ _ _ _ (read-only (r .refusal) (s .refusal) _ _ (A .0) (B .0) e) A B, f)
+
+pub face-write-once : (r s : WriteAnswer) (p n : ℕ) (m cs : List ℕ) (a : ℕ) {old x y : List ℕ} → WriteCall p n m cs a old (writeRead r) x
+    → Alone (r .refusal) (r .length ∷ []) → WriteCall p n m cs a old (writeRead s) y → Alone (s .refusal) (s .length ∷ []) → (r ≡ s) × (x ≡ y)
+face-write-once r s p n m cs a C A D B =
+    let (e, f) = write-unique p n m cs a C D in
     (field-path (λ k x. record { refusal = k; length = x }) _ _ _ _ (read-only (r .refusal) (s .refusal) _ _ (A .0) (B .0) e) A B, f)

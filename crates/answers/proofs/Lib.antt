@@ -7,3 +7,4 @@ pub mod Demands
 pub mod Sheet
 pub mod SheetOnce
 pub mod Listing
+pub mod Writing

@@ -6,8 +6,10 @@
 --   given-some, given-none     of a result that may be none: by its number, and none is no number
 --   counts-path, given-counts   what a stand counts is known by its fields, also where it is given with a standing and a witness
 --   proved-short   the two standings differ
---   inverted-only, ordered-only, imaged-only, stood-only, chained-only, perioded-only   answers with the same number or values are the same
---   inverse-once, order-once, image-once, stand-once, chain-once, period-once   any two permitted answers and buffer contents are the same
+--   inverted-only, ordered-only, imaged-only, stood-only, chained-only, perioded-only, written-only
+--                  answers with the same number or values are the same
+--   inverse-once, order-once, image-once, stand-once, chain-once, period-once, write-once
+--                  any two permitted answers and buffer contents are the same
 -- Assumes nothing.
 use mathlib.Core.Path.{_≡_, refl, sym, ap, ap₂, _∙_}
 use mathlib.Core.Bool.{cond}
@@ -19,8 +21,9 @@ use lib.Dec.{eqb}
 use Rattle.meaning.specs.Refusal.{Refusal, alone, at}
 use Rattle.meaning.specs.Stand.{Standing, proved, short, Outcome}
 use Rattle.meaning.specs.Calls.{Answer, refused, given, InverseCall, OrderCall, ImageCall, StandCall, ChainCall, PeriodCall}
+use Rattle.meaning.specs.Writing.{WriteCall}
 use Rattle.meaning.proofs.Called.{refused-given}
-use Rattle.promises.proofs.Calls.{inverse-unique, order-unique, image-unique, stand-unique, chain-unique, period-unique}
+use Rattle.promises.proofs.Calls.{inverse-unique, order-unique, image-unique, stand-unique, chain-unique, period-unique, write-unique}
 use Rattle.reasons.specs.Reasons.{asRefusal}
 use Rattle.reasons.specs.declared.Reason.{Reason}
 use Rattle.reasons.specs.declared.Reason.the-variants as reason
@@ -38,12 +41,15 @@ use Rattle.calls.specs.declared.Chained.{Chained}
 use Rattle.calls.specs.declared.Chained.the-variants as chained
 use Rattle.calls.specs.declared.Perioded.{Perioded}
 use Rattle.calls.specs.declared.Perioded.the-variants as perioded
+use Rattle.writer.specs.Answers.{writtenOf}
+use Rattle.writer.specs.declared.Written.{Written}
+use Rattle.writer.specs.declared.Written.the-variants as written
 
 -- a number that is no reason's is read as some reason: only refusals that the code makes are read back
 reasonIn : Refusal → Reason
 reasonIn (alone k) =
     cond (eqb k 1) reason.NoPrime (cond (eqb k 2) reason.NoSize (cond (eqb k 3) reason.NoMatrix
-    (cond (eqb k 4) reason.NoRows (cond (eqb k 7) reason.NoPolynomial reason.NoRoom))))
+    (cond (eqb k 4) reason.NoRows (cond (eqb k 7) reason.NoPolynomial (cond (eqb k 9) reason.NoAllowance reason.NoRoom)))))
 reasonIn (at k r c) = cond (eqb k 5) (reason.MatrixEntry r c) (cond (eqb k 10) (reason.RowEntry r c) (reason.Coefficient c))
 
 reason-read : (x : Reason) → reasonIn (asRefusal x) ≡ x
@@ -56,6 +62,7 @@ reason-read reason.NoPolynomial = refl
 reason-read (reason.MatrixEntry r c) = refl
 reason-read (reason.RowEntry r c) = refl
 reason-read (reason.Coefficient c) = refl
+reason-read reason.NoAllowance = refl
 reason-read reason.NoRoom = refl
 
 reason-only : (x y : Reason) → asRefusal x ≡ asRefusal y → x ≡ y
@@ -139,6 +146,12 @@ perioded-only (perioded.Refused k) (perioded.Least b) e = absurd (refused-given 
 perioded-only (perioded.Refused k) perioded.Never e = absurd (refused-given (asRefusal k) none e)
 perioded-only (perioded.Refused k) (perioded.Refused j) e = ap perioded.Refused (refused-only (Option ℕ) k j e)
 
+pub written-only : (r s : Written) → writtenOf r ≡ writtenOf s → r ≡ s
+written-only (written.Length a) (written.Length b) e = ap written.Length (given-only a b e)
+written-only (written.Length a) (written.Refused k) e = absurd (refused-given (asRefusal k) a (sym e))
+written-only (written.Refused k) (written.Length b) e = absurd (refused-given (asRefusal k) b e)
+written-only (written.Refused k) (written.Refused j) e = ap written.Refused (refused-only ℕ k j e)
+
 -- the calls
 pub inverse-once : (r s : Inverted) {p a : ℕ} → InverseCall p a (invertedOf r) → InverseCall p a (invertedOf s) → r ≡ s
 inverse-once r s A B = inverted-only r s (inverse-unique A B)
@@ -161,3 +174,7 @@ chain-once r s A B = let (e, f) = chain-unique A B in (chained-only r s e, f)
 
 pub period-once : (r s : Perioded) (p n : ℕ) (m : List ℕ) → PeriodCall p n m (periodedOf r) → PeriodCall p n m (periodedOf s) → r ≡ s
 period-once r s p n m A B = perioded-only r s (period-unique p n m A B)
+
+pub write-once : (r s : Written) (p n : ℕ) (m cs : List ℕ) (a : ℕ) {old x y : List ℕ} → WriteCall p n m cs a old (writtenOf r) x
+    → WriteCall p n m cs a old (writtenOf s) y → (r ≡ s) × (x ≡ y)
+write-once r s p n m cs a A B = let (e, f) = write-unique p n m cs a A B in (written-only r s e, f)

@@ -37,6 +37,7 @@ reason-read reason.NoPolynomial r = refl
 reason-read (reason.MatrixEntry i j) r = refl
 reason-read (reason.RowEntry i j) r = refl
 reason-read (reason.Coefficient j) r = refl
+reason-read reason.NoAllowance r = refl
 reason-read reason.NoRoom r = refl
 
 pub refused-as : {A : Type 0} {x : Numbers} (q : Reason) (r : A) (P : Answer A → Type 0) → x ≡ numbersOf (asRefusal q) → P (refused (asRefusal q))
@@ -55,6 +56,7 @@ reason-alone q xs z = (go q, λ h. z)
     go (reason.MatrixEntry i j) h = absurd (true≢false h)
     go (reason.RowEntry i j) h = absurd (true≢false h)
     go (reason.Coefficient j) h = absurd (true≢false h)
+    go reason.NoAllowance h = (refl, (refl, tt))
     go reason.NoRoom h = (refl, (refl, tt))
 
 pub refused-alone : {x : Numbers} (q : Reason) (xs : List ℕ) → x ≡ numbersOf (asRefusal q) → AllZero xs → Alone x xs

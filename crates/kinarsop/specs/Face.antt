@@ -12,7 +12,7 @@
 --   periodIn t        none where t is 0, else the period t
 --   standNumbers r    what a stand's answer has beside its refusal, the mark proved as 1
 --   outcomeIn r       what a stand's answer says where it is not refused
---   inverseRead, orderRead, imageRead, standRead, chainRead, periodRead, sheetRead   the answer of each call, read off what its function returns
+--   inverseRead, orderRead, imageRead, standRead, chainRead, periodRead, sheetRead, writeRead   the answer of each call, read off what its function returns
 -- Assumes nothing.
 use mathlib.Core.Path.{_≡_}
 use mathlib.Core.Bool.{Bool, true, false, _||_, cond}
@@ -30,6 +30,7 @@ use Rattle.kinarsop.specs.declared.StandAnswer.{StandAnswer}
 use Rattle.kinarsop.specs.declared.ChainAnswer.{ChainAnswer}
 use Rattle.kinarsop.specs.declared.PeriodAnswer.{PeriodAnswer}
 use Rattle.kinarsop.specs.declared.SheetAnswer.{SheetAnswer}
+use Rattle.kinarsop.specs.declared.WriteAnswer.{WriteAnswer}
 
 abbrev pub hasPlace : ℕ → Bool
 hasPlace k = eqb k 5 || (eqb k 10 || eqb k 11)
@@ -90,3 +91,6 @@ periodRead r = readAs (r .refusal) (periodIn (r .period))
 
 abbrev pub sheetRead : SheetAnswer → Answer ℕ
 sheetRead r = readAs (r .refusal) (r .length)
+
+abbrev pub writeRead : WriteAnswer → Answer ℕ
+writeRead r = readAs (r .refusal) (r .length)

@@ -5,10 +5,12 @@ ghost use mathlib.Core.Path.{_≡_};
 ghost use mathlib.Core.List.{[], _∷_};
 ghost use Rattle.meaning.specs.Calls.{given, InverseCall, OrderCall, ImageCall, StandCall, ChainCall, PeriodCall};
 ghost use Rattle.meaning.specs.Sheet.{SheetCall};
+ghost use Rattle.meaning.specs.Writing.{WriteCall};
 ghost use Rattle.meaning.specs.Refusal.{alone as numbered};
 ghost use Rattle.reasons.specs.Reasons.{numbersOf};
 ghost use Rattle.calls.specs.Answers.{countedAs};
 ghost use Rattle.kinarsop.specs.Face.{Alone, standingIn, inverseRead, orderRead, imageRead, standNumbers, standRead, chainRead, periodRead, sheetRead};
+ghost use Rattle.kinarsop.specs.Face.{writeRead};
 use calls::Chained;
 use calls::Counts;
 use calls::Imaged;
@@ -18,6 +20,7 @@ use calls::Perioded;
 use calls::Stood;
 use reasons::Numbers;
 use sheet::Sheeted;
+use writer::Written;
 
 // The number of an answered call.
 const ANSWERED: u8 = 0;
@@ -64,6 +67,12 @@ pub struct PeriodAnswer {
 
 #[repr(C)]
 pub struct SheetAnswer {
+    pub refusal: Numbers,
+    pub length: usize,
+}
+
+#[repr(C)]
+pub struct WriteAnswer {
     pub refusal: Numbers,
     pub length: usize,
 }
@@ -242,6 +251,31 @@ pub extern "C" fn kinarsop_sheet(file: &[u8], out: &mut [u8]) -> SheetAnswer
             length: length,
         },
         Sheeted::Refused(reason) => SheetAnswer {
+            refusal: reasons::as_numbers(reason),
+            length: 0,
+        },
+    }
+}
+
+// `writer::write`: how many bytes of `out` are the case.
+#[no_mangle]
+pub extern "C" fn kinarsop_write(
+    p: u32,
+    n: usize,
+    m: &[u8],
+    cs: &[u8],
+    allowance: u32,
+    out: &mut [u8],
+) -> WriteAnswer
+    ensures { λ r. ⌜ WriteCall p n (now (m .entry)) (now (cs .entry)) allowance (now (out .entry)) (writeRead r) (now (out .exit)) ⌝ }
+    ensures { λ r. ⌜ Alone (r .refusal) (r .length ∷ []) ⌝ }
+{
+    match writer::write(p, n, m, cs, allowance, out) {
+        Written::Length(length) => WriteAnswer {
+            refusal: answered(),
+            length: length,
+        },
+        Written::Refused(reason) => WriteAnswer {
             refusal: reasons::as_numbers(reason),
             length: 0,
         },

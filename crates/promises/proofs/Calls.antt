@@ -1,8 +1,10 @@
 -- One result for every input: for each call a permitted answer and buffer content exists, and any two permitted ones agree.
 -- That a refusal is the one that the table gives, and is given in no other case, is proved in `Called` of meaning.
 -- What `..-exists` permits is what the functions of Run find, and can be computed: these laws unfold.
---   inverse-exists, order-exists, image-exists, stand-exists, chain-exists, period-exists   a permitted answer, with what the buffers hold
---   inverse-unique, order-unique, image-unique, stand-unique, chain-unique, period-unique   any two agree, buffers included
+--   inverse-exists, order-exists, image-exists, stand-exists, chain-exists, period-exists, write-exists
+--                    a permitted answer, with what the buffers hold
+--   inverse-unique, order-unique, image-unique, stand-unique, chain-unique, period-unique, write-unique
+--                    any two agree, buffers included
 -- Assumes nothing.
 use mathlib.Core.Path.{_≡_, refl, sym, _∙_, Σ-path}
 use mathlib.Core.List.{List}
@@ -12,6 +14,7 @@ use Rattle.meaning.specs.Bytes.{row, times}
 use Rattle.meaning.specs.Stand.{Outcome}
 use Rattle.meaning.specs.Refusal.{inverseRefusal, periodRefusal}
 use Rattle.meaning.specs.Calls.{Answer, InverseCall, OrderCall, ImageCall, StandCall, ChainCall, PeriodCall}
+use Rattle.meaning.specs.Writing.{WriteCall}
 use Rattle.meaning.proofs.Refusal.{inverse-sound, order-sound, stand-sound, chain-sound}
 use Rattle.meaning.proofs.Called.{called-exists, called-unique}
 use Rattle.meaning.proofs.Unique.{order-only, stand-only, witness-only, chain-only, period-only, inverse-only, alike-stageBytes}
@@ -87,3 +90,10 @@ period-exists p n m =
 
 pub period-unique : (p n : ℕ) (m : List ℕ) {x y : Answer (Option ℕ)} → PeriodCall p n m x → PeriodCall p n m y → x ≡ y
 period-unique p n m A B = called-unique (λ q r s u w C D. (period-only p n m r s C D, refl)) A B .0
+
+unfoldable pub write-exists : (p n : ℕ) (m cs : List ℕ) (a : ℕ) (old : List ℕ) → (answer : Answer ℕ) × (new : List ℕ) × WriteCall p n m cs a old answer new
+write-exists p n m cs a old = called-exists _ old (λ q. (_, _, (refl, refl)))
+
+pub write-unique : (p n : ℕ) (m cs : List ℕ) (a : ℕ) {old s t : List ℕ} {x y : Answer ℕ} → WriteCall p n m cs a old x s → WriteCall p n m cs a old y t
+    → (x ≡ y) × (s ≡ t)
+write-unique p n m cs a = called-unique (λ q r u b d C D. (C .0 ∙ sym (D .0), C .1 ∙ sym (D .1)))

@@ -8,3 +8,4 @@ pub mod Answers
 pub mod Sheet
 pub mod Wrong
 pub mod Refused
+pub mod Writing

@@ -4,14 +4,15 @@
 --   gives-number, gives-cell, gives-end   that from the first test and the rest, or where there is none
 --   entry-here, entry-past, coefficient-here, shape-past   what a list of tests gives, from its first tests
 --   shape-explained, matrix-explained, rows-explained, coefficients-explained, buffer-explained, candidates-explained   the tests that calls share
---   inverse-explained, order-explained, image-explained, stand-explained, chain-explained, period-explained   whatever a call is refused with is explained
+--   inverse-explained, order-explained, image-explained, stand-explained, chain-explained, period-explained, write-explained
+--                      whatever a call is refused with is explained
 --   explained-alone    5, 10 and 11 never come without a place
 --   explained-number   no other number has one
 --   explained-matrix, explained-row, explained-coefficient   the bounds of row and column for each of the three
 --   order-row, image-row   one vector says row 1
 --   inverse-place      a scalar says 11, row 0, column 1
 --   period-place       the period has 5 alone with a place
---   inverse-tells, period-tells, order-tells, image-tells, stand-tells, chain-tells   the first bad entry is told
+--   inverse-tells, period-tells, order-tells, image-tells, stand-tells, chain-tells, write-tells   the first bad entry is told
 -- Assumes nothing.
 use mathlib.Core.Path.{_≡_, refl, subst, _∙_}
 use mathlib.Core.Bool.{Bool, true, false}
@@ -28,15 +29,16 @@ use Rattle.meaning.specs.Bounds.{coefficients, mostCandidates}
 use Rattle.meaning.specs.Stand.{Outcome}
 use Rattle.meaning.specs.Entry.{Cell, cellAt, firstBad, badCell, FirstBad}
 use Rattle.meaning.specs.Refusal.{Refusal, alone, at, refuse, refuseAt, isPrime, noPrime, noSize, noMatrix, noRows, noVector, noPolynomial}
-use Rattle.meaning.specs.Refusal.{badEntry, badCoefficient, badScalar, tooShort, first}
+use Rattle.meaning.specs.Refusal.{badEntry, badCoefficient, badScalar, noAllowance, tooShort, first}
 use Rattle.meaning.specs.Refusal.{inverseRefusal, orderRefusal, imageRefusal, standRefusal, chainRefusal, periodRefusal}
 use Rattle.meaning.specs.Calls.{Answer, refused, Called, InverseCall, OrderCall, ImageCall, StandCall, ChainCall, PeriodCall}
+use Rattle.meaning.specs.Writing.{writeRefusal, WriteCall}
 use Rattle.meaning.proofs.Entry.{bad-first, first-bad, badCell-none, small-badCell, row-within, bad-coefficient, coefficient-row, empty-good}
 use Rattle.meaning.proofs.Refusal.{noSize-false, noMatrix-false, noRows-false, noVector-false}
 use Rattle.meaning.proofs.Refusal.{size-noSize, matrix-noMatrix, rows-noRows, vector-noVector, polynomial-noPolynomial, refuse-none, first-next}
 use Rattle.meaning.proofs.Called.{called-refused}
 use Rattle.promises.specs.Refused.{no-prime, no-size, no-matrix, no-rows, no-polynomial}
-use Rattle.promises.specs.Refused.{Explained, before-entries, matrix-entry, row-entry, coefficient-entry, short-buffer}
+use Rattle.promises.specs.Refused.{Explained, before-entries, matrix-entry, row-entry, coefficient-entry, over-allowance, short-buffer}
 use Rattle.promises.specs.Refused.{WithoutPlace, InShape, EntriesTold}
 
 -- the first test that applies, one after another
@@ -148,32 +150,41 @@ image-explained {p} {n} {m} {v} {f} {old} C =
     rows-explained 1 h (one-row n v b) (le-refl 1) s (λ t. coefficients-explained s t (buffer-explained (tooShort n old) s t)))))))
     (called-refused C .0)
 
--- the tests of stand and chain, but for which buffers are short
-candidates-explained : (p n : ℕ) (m cs : List ℕ) (b : Bool)
+-- the tests of a call that takes candidates, but for what comes behind them
+candidates-explained : (p n : ℕ) (m cs : List ℕ) {ts : List (Option Refusal)}
+    → (Small p m → Small p cs → GivesOnly (Explained p n m mostCandidates cs []) ts)
     → GivesOnly (Explained p n m mostCandidates cs [])
     (refuse 1 (noPrime p) ∷ refuse 2 (noSize n) ∷ refuse 3 (noMatrix n m) ∷ refuse 4 (noRows n cs)
-    ∷ refuseAt 5 (badEntry p n m) ∷ refuseAt 10 (badEntry p n cs) ∷ refuse 6 b ∷ [])
-candidates-explained p n m cs b =
+    ∷ refuseAt 5 (badEntry p n m) ∷ refuseAt 10 (badEntry p n cs) ∷ ts)
+candidates-explained p n m cs g =
     shape-explained (λ h e.
     gives-number 4 (noRows n cs) (before-entries no-rows) (λ d.
     let (whole, few) = noRows-false n cs h d in
-    matrix-explained h e (λ s. rows-explained (length cs / n) h whole few s (λ t. buffer-explained b s t tt))))
+    matrix-explained h e (λ s. rows-explained (length cs / n) h whole few s (λ t. g s t))))
 
 pub stand-explained : {p n a : ℕ} {m cs : List ℕ} {old new : List ℕ × List ℕ} {q : Refusal} → StandCall p n m cs a old (refused q) new
     → Explained p n m mostCandidates cs [] q
 unfolding standRefusal
-stand-explained {p} {n} {a} {m} {cs} C = explained-by (candidates-explained p n m cs _) (called-refused C .0)
+stand-explained {p} {n} {a} {m} {cs} C = explained-by (candidates-explained p n m cs (λ s t. buffer-explained _ s t tt)) (called-refused C .0)
 
 pub chain-explained : {p n : ℕ} {m cs : List ℕ} {old new : List ℕ × List ℕ} {q : Refusal} → ChainCall p n m cs old (refused q) new
     → Explained p n m mostCandidates cs [] q
 unfolding chainRefusal
-chain-explained {p} {n} {m} {cs} C = explained-by (candidates-explained p n m cs _) (called-refused C .0)
+chain-explained {p} {n} {m} {cs} C = explained-by (candidates-explained p n m cs (λ s t. buffer-explained _ s t tt)) (called-refused C .0)
+
+pub write-explained : (p n : ℕ) (m cs : List ℕ) (a : ℕ) {old new : List ℕ} {q : Refusal} → WriteCall p n m cs a old (refused q) new
+    → Explained p n m mostCandidates cs [] q
+unfolding writeRefusal
+write-explained p n m cs a C =
+    explained-by
+    (candidates-explained p n m cs (λ s t. gives-number 9 (noAllowance a) (over-allowance s t) (λ b. buffer-explained _ s t tt)))
+    (called-refused C .0)
 
 pub period-explained : {p n : ℕ} {m : List ℕ} {q : Refusal} → PeriodCall p n m (refused q) → Explained p n m 0 [] [] q
 unfolding periodRefusal
 period-explained C = explained-by (shape-explained (λ h e. matrix-explained h e (λ s. gives-end))) (called-refused C .0)
 
--- the numbers without a place are below 8
+-- the numbers without a place are below 8, but for 9
 apart : {k : ℕ} → k < 8 → ¬ (k ≡ 5) → WithoutPlace k
 apart h e = (e, λ q. omega arith, λ q. omega arith)
 
@@ -185,6 +196,7 @@ module _ {p n : ℕ} {m : List ℕ} {most : ℕ} {rs f : List ℕ} where
   explained-alone (before-entries no-matrix) = apart (omega arith) (λ e. omega arith)
   explained-alone (before-entries no-rows) = apart (omega arith) (λ e. omega arith)
   explained-alone (before-entries no-polynomial) = apart (omega arith) (λ e. omega arith)
+  explained-alone (over-allowance s t) = (λ e. omega arith, λ e. omega arith, λ e. omega arith)
   explained-alone (short-buffer s t u) = apart (omega arith) (λ e. omega arith)
 
   -- no other number has a place
@@ -263,6 +275,13 @@ pub stand-tells : {p n a : ℕ} {m cs : List ℕ} {old new : List ℕ × List �
     → k ≤ mostCandidates → StandCall p n m cs a old x new → EntriesTold p n m cs [] x
 unfolding standRefusal
 stand-tells {p} {n} {a} {m} {cs} k S w h =
+    entries-told p n m cs [] _ (shape-past p n m _ S ∙ first-next _ _ (refuse-none 4 (rows-noRows n cs (S .some-size) k w h)))
+    (λ c F. absurd (empty-good c F))
+
+pub write-tells : (p n : ℕ) (m cs : List ℕ) (a : ℕ) {old new : List ℕ} {x : Answer ℕ} (k : ℕ) → InShape p n m → length cs ≡ k * n → k ≤ mostCandidates
+    → WriteCall p n m cs a old x new → EntriesTold p n m cs [] x
+unfolding writeRefusal
+write-tells p n m cs a k S w h =
     entries-told p n m cs [] _ (shape-past p n m _ S ∙ first-next _ _ (refuse-none 4 (rows-noRows n cs (S .some-size) k w h)))
     (λ c F. absurd (empty-good c F))
 

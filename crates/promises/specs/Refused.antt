@@ -25,12 +25,13 @@ pub data BeforeEntries : ℕ → Type 0 where
   no-polynomial : BeforeEntries 7
 
 -- "5 for a matrix entry, then 10 for a candidate or vector entry, then 11 for a coefficient or scalar": where one of them is told, all that is looked
--- at before it is good. 6, a short buffer, is told where all entries are
+-- at before it is good. 9, an allowance that is too large (#101), is told where all entries are good, and 6, a short buffer, where all else is
 pub data Explained (p n : ℕ) (m : List ℕ) (most : ℕ) (rs f : List ℕ) : Refusal → Type 0 where
   before-entries : {k : ℕ} → BeforeEntries k → Explained p n m most rs f (alone k)
   matrix-entry : (c : Cell) → FirstBad 1 p n m c → c .row ≤ n → Explained p n m most rs f (at 5 (c .row) (c .column))
   row-entry : (c : Cell) → Small p m → FirstBad 1 p n rs c → c .row ≤ most → Explained p n m most rs f (at 10 (c .row) (c .column))
   coefficient-entry : (c : Cell) → Small p m → Small p rs → FirstBad 0 p (length f) f c → c .row ≡ 0 → Explained p n m most rs f (at 11 (c .row) (c .column))
+  over-allowance : Small p m → Small p rs → Explained p n m most rs f (alone 9)
   short-buffer : Small p m → Small p rs → Small p f → Explained p n m most rs f (alone 6)
 
 abbrev pub WithoutPlace : ℕ → Type 0
