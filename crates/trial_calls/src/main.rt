@@ -6,6 +6,7 @@ mod inverse;
 mod order;
 mod period;
 mod stand;
+mod write;
 
 use libc::STDIN_FILENO;
 use reasons::Reason;
@@ -68,6 +69,10 @@ fn answer(line: &[u8]) {
     }
     if trial_lines::named(line, b"period") {
         period::answer(line);
+        return;
+    }
+    if trial_lines::named(line, b"write") {
+        write::answer(line);
         return;
     }
     trial_lines::print(b" unknown");
