@@ -1,8 +1,8 @@
 /* Kinarsop analyses a linear machine: a state row of n entries that is multiplied at every tick
    by an n by n matrix M over the integers modulo a small prime p. It gives order polynomials, the
    stand (the minimal polynomial, or a divisor of it that is marked as such), the chain of relative
-   orders, the period, and the sheet of a case file. What is behind these functions is written in
-   Rattle and proved to meet its contract for every input.
+   orders, the period, and the sheet of a case file, and it writes such files. What is behind these
+   functions is written in Rattle and proved to meet its contract for every input.
 
    BUILD. With the Rattle toolchain, for x86-64 Linux:
 
@@ -67,6 +67,9 @@ enum kinarsop_number {
     /* A coefficient is p or more: `row` is 0 and `column` its place, that of the lowest being 1.
        Or the scalar is: `row` is 0 and `column` 1. Take it modulo p. */
     KINARSOP_COEFFICIENT = 11,
+    /* Write: the allowance is over 16,383, the most that the two numbers of record A can say. Give
+       a smaller one: KINARSOP_FULL_ALLOWANCE pays for every list. */
+    KINARSOP_ALLOWANCE = 9,
     /* A result buffer is too short. Lend what the call asks, or what always does (the rooms). */
     KINARSOP_NO_ROOM = 6,
     /* A file is no case. No call returns it: kinarsop_sheet writes it as the line REFUSED with
@@ -89,7 +92,9 @@ enum kinarsop_bound {
     KINARSOP_MOST_CANDIDATES = 128,
     /* It pays for every list: 128 orders of degree 64. */
     KINARSOP_FULL_ALLOWANCE = 8192,
-    /* The bytes of the longest case file. */
+    /* The largest allowance that a case file can state. */
+    KINARSOP_MOST_STATED = 16383,
+    /* The bytes of the longest case file, and so the room for every one. */
     KINARSOP_LONGEST_CASE = 12682,
     KINARSOP_POLYNOMIAL_ROOM = 65,
     KINARSOP_ROW_ROOM = 64,
@@ -239,6 +244,33 @@ struct kinarsop_sheet_answer {
 
 struct kinarsop_sheet_answer kinarsop_sheet(const uint8_t *file, size_t file_length, uint8_t *out,
                                             size_t out_length);
+
+/* Writes a case file: p, n, the matrix, the candidates and the allowance, which it always states
+   (record A). kinarsop_sheet takes the file.
+     m          the matrix, n*n bytes
+     cs         the candidates, 0 to 128 rows of n bytes; cs_length is the number of all bytes
+     allowance  0 to KINARSOP_MOST_STATED
+     out        at least as many bytes as the file has, which for k candidates are
+                10 + (n + k)*(n + 2); gets the file at its front
+   `length` is that of the file.
+   Whoever reads the file gets the values that were lent; and a case file with a record A, whose
+   values are lent again, is written as it was, byte for byte.
+   Refused by 1 (p), 2 (n), 3 (m_length), 4 (cs_length), 5 (an entry of m), 10 (an entry of cs), 9
+   (allowance), 6 (out_length).
+
+       const uint8_t m[] = {0, 1, 2, 0}, cs[] = {1, 0};
+       a = kinarsop_write(3, 2, m, 4, cs, 2, KINARSOP_FULL_ALLOWANCE, out, 22);
+
+   gives the length 22; the records are 255 F 3 2, 255 A 64 0 (8192 is 128*64 + 0), 255 R 0 1,
+   255 R 2 0, 255 C 1 0 and 255 E, each letter as its ASCII byte. */
+struct kinarsop_write_answer {
+    struct kinarsop_refusal refusal;
+    size_t length;
+};
+
+struct kinarsop_write_answer kinarsop_write(uint32_t p, size_t n, const uint8_t *m,
+                                            size_t m_length, const uint8_t *cs, size_t cs_length,
+                                            uint32_t allowance, uint8_t *out, size_t out_length);
 
 #ifdef __cplusplus
 }

@@ -3,10 +3,10 @@
    call that reads or writes beyond its slice ends the program. Numbers are little-endian.
 
      batch     u32 count, then so many requests; the output is flushed behind each batch
-     request   u8 call: 0 inverse, 1 order, 2 image, 3 stand, 4 chain, 5 period, 6 sheet
+     request   u8 call: 0 inverse, 1 order, 2 image, 3 stand, 4 chain, 5 period, 6 sheet, 7 write
                u8 sides: bit k set, slice k ends at the page behind it; else it begins at the
                  page in front of it
-               u32 p, u64 n, u32 k: the scalar of inverse, the allowance of stand
+               u32 p, u64 n, u32 k: the scalar of inverse, the allowance of stand and write
                the slices in the sequence of the parameters: u32 length, then the bytes, in a
                  result buffer those that it holds before the call
      response  eight u64: the refusal's number, row and column, the other fields of the answer,
@@ -221,6 +221,16 @@ static void make_sheet(const struct request *r, uint64_t *fields)
     fields[0] = a.length;
 }
 
+static void make_write(const struct request *r, uint64_t *fields)
+{
+    const struct slice *s = r->slices;
+    const struct kinarsop_write_answer a =
+        kinarsop_write(r->p, r->n, s[0].lent, s[0].length, s[1].lent, s[1].length, r->k, s[2].lent,
+                       s[2].length);
+    fields = put_refusal(a.refusal, fields);
+    fields[0] = a.length;
+}
+
 struct call {
     size_t slices;
     void (*make)(const struct request *r, uint64_t *fields);
@@ -228,7 +238,7 @@ struct call {
 
 static const struct call CALLS[] = {
     {0, make_inverse}, {3, make_order},  {4, make_image}, {4, make_stand},
-    {4, make_chain},   {1, make_period}, {2, make_sheet},
+    {4, make_chain},   {1, make_period}, {2, make_sheet}, {3, make_write},
 };
 
 static const struct call *take_request(struct request *r)

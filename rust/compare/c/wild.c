@@ -70,3 +70,12 @@ struct kinarsop_sheet_answer kinarsop_sheet(const uint8_t *file, size_t file_len
     (void)file, (void)file_length, (void)out, (void)out_length;
     return (struct kinarsop_sheet_answer){0};
 }
+
+struct kinarsop_write_answer kinarsop_write(uint32_t p, size_t n, const uint8_t *m,
+                                            size_t m_length, const uint8_t *cs, size_t cs_length,
+                                            uint32_t allowance, uint8_t *out, size_t out_length)
+{
+    (void)p, (void)n, (void)m, (void)m_length, (void)cs, (void)cs_length, (void)allowance;
+    (void)out, (void)out_length;
+    return (struct kinarsop_write_answer){0};
+}
