@@ -1,5 +1,6 @@
-//! The calls with all that is lent to them: what each answers, and every slice as it leaves it. What is refused is worked out here from the refusal
-//! table alone (01, "Refusal numbers", with 5 split by #102); the results are those of `naive` and `sheet`.
+//! The calls with all that is lent to them: what each answers, and every slice as it leaves it.
+//! What is refused is worked out here from the refusal table alone (01, "Refusal numbers", with 5
+//! split by #102 and 9 put in by #101); the results are those of `naive`, `sheet` and `case`.
 //!
 //! A call can be written as a line of text, its arguments and what each result buffer holds before it in groups:
 //!
@@ -11,8 +12,9 @@
 //! chain   p | n | matrix | candidates | product buffer | stage buffer
 //! period  p | n | matrix
 //! sheet   file | buffer
+//! write   p | n | matrix | candidates | allowance | buffer
 //! ```
-use crate::case::MOST_CANDIDATES;
+use crate::case::{stating_length, Case, MOST_CANDIDATES, MOST_STATED};
 use crate::lines::{short_list, Line};
 use crate::naive::{self, Matrix, Row};
 use crate::sheet;
@@ -27,10 +29,11 @@ pub const POLYNOMIAL: u8 = 7;
 pub const MATRIX_ENTRY: u8 = 5;
 pub const ROW_ENTRY: u8 = 10;
 pub const COEFFICIENT: u8 = 11;
+pub const ALLOWANCE: u8 = 9;
 pub const BUFFERS: u8 = 6;
 
 /// The order of the table, in which the tests run.
-pub const TABLE: [u8; 9] = [
+pub const TABLE: [u8; 10] = [
     PRIME,
     SIZE,
     MATRIX,
@@ -39,6 +42,7 @@ pub const TABLE: [u8; 9] = [
     MATRIX_ENTRY,
     ROW_ENTRY,
     COEFFICIENT,
+    ALLOWANCE,
     BUFFERS,
 ];
 
@@ -88,6 +92,7 @@ pub enum Name {
     Chain,
     Period,
     Sheet,
+    Write,
 }
 
 /// What a group of a line is: a number of the call, or the next slice.
@@ -100,7 +105,7 @@ enum Part {
 }
 
 impl Name {
-    pub const ALL: [Name; 7] = [
+    pub const ALL: [Name; 8] = [
         Name::Inverse,
         Name::Order,
         Name::Image,
@@ -108,6 +113,7 @@ impl Name {
         Name::Chain,
         Name::Period,
         Name::Sheet,
+        Name::Write,
     ];
 
     pub fn word(self) -> &'static str {
@@ -119,6 +125,7 @@ impl Name {
             Name::Chain => "chain",
             Name::Period => "period",
             Name::Sheet => "sheet",
+            Name::Write => "write",
         }
     }
 
@@ -137,6 +144,7 @@ impl Name {
             Name::Chain => &[P, N, Slice, Slice, Slice, Slice],
             Name::Period => &[P, N, Slice],
             Name::Sheet => &[Slice, Slice],
+            Name::Write => &[P, N, Slice, Slice, K, Slice],
         }
     }
 
@@ -149,23 +157,11 @@ impl Name {
     pub fn results(self) -> Range<usize> {
         match self {
             Name::Inverse => 0..0,
-            Name::Order => 2..3,
+            Name::Order | Name::Write => 2..3,
             Name::Image => 3..4,
             Name::Stand | Name::Chain => 2..4,
             Name::Period => 1..1,
             Name::Sheet => 1..2,
-        }
-    }
-
-    /// The bytes that each result buffer is to have at least.
-    pub fn rooms(self, n: usize) -> Vec<usize> {
-        match self {
-            Name::Inverse | Name::Period => vec![],
-            Name::Order => vec![n + 1],
-            Name::Image => vec![n],
-            Name::Stand => vec![n + 1, n],
-            Name::Chain => vec![n + 1, 2 * n],
-            Name::Sheet => vec![SHEET_ROOM],
         }
     }
 }
@@ -176,7 +172,7 @@ pub struct Call {
     pub name: Name,
     pub p: u32,
     pub n: u64,
-    /// The scalar of an inverse, the allowance of a stand.
+    /// The scalar of an inverse, the allowance of a stand and of a case to be written.
     pub k: u32,
     pub slices: Vec<Vec<u8>>,
 }
@@ -219,6 +215,32 @@ impl Call {
         self.p *= u32::from(parts.contains(&Part::P));
         self.n *= u64::from(parts.contains(&Part::N));
         self.k *= u32::from(parts.contains(&Part::K));
+    }
+
+    /// The bytes that each result buffer is to have at least, where a row has n entries.
+    pub fn rooms(&self, n: usize) -> Vec<usize> {
+        match self.name {
+            Name::Inverse | Name::Period => vec![],
+            Name::Order => vec![n + 1],
+            Name::Image => vec![n],
+            Name::Stand => vec![n + 1, n],
+            Name::Chain => vec![n + 1, 2 * n],
+            Name::Sheet => vec![SHEET_ROOM],
+            Name::Write => {
+                let candidates = self.slices[1].len().checked_div(n).unwrap_or(0);
+                vec![stating_length(n, candidates)]
+            }
+        }
+    }
+
+    /// The case of a call that takes candidates and an allowance, which the case states.
+    pub fn case(&self) -> Case {
+        Case {
+            p: self.p.into(),
+            matrix: self.matrix(),
+            candidates: self.rows(1),
+            stated: Some(self.k.into()),
+        }
     }
 
     fn size(&self) -> usize {
@@ -291,7 +313,7 @@ pub fn outcome(call: &Call) -> Outcome {
         Some(refusal) => Answer::Refused(refusal),
         None => {
             let (answer, written) = given(call);
-            write(&mut slices[call.name.results()], &written);
+            lay(&mut slices[call.name.results()], &written);
             answer
         }
     };
@@ -299,7 +321,7 @@ pub fn outcome(call: &Call) -> Outcome {
 }
 
 /// The written bytes go to the front of each buffer.
-fn write(buffers: &mut [Vec<u8>], written: &[Row]) {
+fn lay(buffers: &mut [Vec<u8>], written: &[Row]) {
     for (buffer, front) in buffers.iter_mut().zip(written) {
         buffer[..front.len()].copy_from_slice(&narrow(front));
     }
@@ -354,6 +376,8 @@ fn of_machine(call: &Call) -> Result<(), Refusal> {
     test_entries(MATRIX_ENTRY, bad_entry(call.p, n, call.read(0)))?;
     test_entries(ROW_ENTRY, bad_entry(call.p, n, call.read(1)))?;
     test_entries(COEFFICIENT, bad_coefficient(call.p, call.read(2)))?;
+    let over = MOST_STATED < call.k.into();
+    test(ALLOWANCE, call.name == Name::Write && over)?;
     room(call)
 }
 
@@ -384,7 +408,9 @@ fn ragged(call: &Call) -> bool {
     let length = || call.slices[1].len();
     match call.name {
         Name::Order | Name::Image => length() != n,
-        Name::Stand | Name::Chain => !length().is_multiple_of(n) || MOST_CANDIDATES < length() / n,
+        Name::Stand | Name::Chain | Name::Write => {
+            !length().is_multiple_of(n) || MOST_CANDIDATES < length() / n
+        }
         _ => false,
     }
 }
@@ -396,7 +422,7 @@ fn unfit(polynomial: &[u8]) -> bool {
 
 fn room(call: &Call) -> Result<(), Refusal> {
     let buffers = &call.slices[call.name.results()];
-    let rooms = call.name.rooms(call.size());
+    let rooms = call.rooms(call.size());
     let short = buffers.iter().zip(rooms).any(|(b, room)| b.len() < room);
     test(BUFFERS, short)
 }
@@ -413,6 +439,7 @@ fn given(call: &Call) -> (Answer, Vec<Row>) {
         Name::Chain => chain(call),
         Name::Period => period(call),
         Name::Sheet => sheet(call),
+        Name::Write => write(call),
     }
 }
 
@@ -476,9 +503,16 @@ fn sheet(call: &Call) -> (Answer, Vec<Row>) {
     (Answer::Length(text.len()), vec![wide(text.as_bytes())])
 }
 
+fn write(call: &Call) -> (Answer, Vec<Row>) {
+    let file = call.case().bytes();
+    (Answer::Length(file.len()), vec![wide(&file)])
+}
+
 #[cfg(test)]
 mod tests {
     use super::*;
+    use crate::grammar;
+    use crate::numbers::Numbers;
 
     fn read(text: &str) -> Call {
         Call::of_line(&Line::parse(text))
@@ -510,6 +544,7 @@ mod tests {
             "chain 3 | 2 | 0 1 2 0 |  | 5*9 | 4*0 1 2 3 3 3 3*4",
             "period 2 | 64 | 4096*1",
             "sheet 255 70 3 | 2048*77 1",
+            "write 3 | 2 | 0 1 2 0 | 1 0 | 16383 | 22*9 8 7",
         ];
         for (text, name) in lines.into_iter().zip(Name::ALL) {
             let call = read(text);
@@ -641,6 +676,128 @@ mod tests {
             let text = format!("period 3 | {n} | 0 1 2 0");
             assert_eq!(refused(&text), alone(SIZE));
         }
+    }
+
+    /// The case of 01's 18 bytes, in a buffer of just its length and in longer ones.
+    #[test]
+    fn the_18_bytes_are_written_with_their_allowance() {
+        let case = [
+            255, 70, 3, 2, 255, 65, 64, 0, 255, 82, 0, 1, 255, 82, 2, 0, 255, 67, 1, 0, 255, 69,
+        ];
+        for behind in [&[][..], &[9], &[7, 8, 9]] {
+            let call = Call {
+                name: Name::Write,
+                p: 3,
+                n: 2,
+                k: 8_192,
+                slices: vec![vec![0, 1, 2, 0], vec![1, 0], [&[5; 22], behind].concat()],
+            };
+            let written = outcome(&call);
+            assert_eq!(written.answer, Answer::Length(22));
+            assert_eq!(written.slices[2], [&case, behind].concat());
+            assert_eq!(written.slices[..2], call.slices[..2]);
+        }
+    }
+
+    /// The case in a buffer that has just enough bytes.
+    fn written(p: u64, n: usize, matrix: &[u64], candidates: &[u64], allowance: u64) -> Vec<u8> {
+        let mut call = Call {
+            name: Name::Write,
+            p: word(p),
+            n: n as u64,
+            k: word(allowance),
+            slices: vec![narrow(matrix), narrow(candidates)],
+        };
+        let room = call.rooms(n)[0];
+        call.slices.push(vec![0; room]);
+        let mut outcome = outcome(&call);
+        assert_eq!(outcome.answer, Answer::Length(room));
+        outcome.slices.swap_remove(2)
+    }
+
+    /// Both readers get the values that were lent.
+    #[test]
+    fn what_is_written_is_read_back() {
+        let mut numbers = Numbers(9);
+        for allowance in [0, 1, 127, 128, 129, 8_191, 8_192, 16_255, 16_256, 16_383] {
+            let (p, n) = (numbers.one_of(&[2, 3, 251]), 1 + numbers.place(4));
+            let (m, cs) = (numbers.matrix(p, n), numbers.matrix(p, n));
+            let cs = &cs[..numbers.place(n + 1)];
+            let file = written(p, n, &m.concat(), &cs.concat(), allowance);
+            let case = Case {
+                p,
+                matrix: m.clone(),
+                candidates: cs.to_vec(),
+                stated: Some(allowance),
+            };
+            assert_eq!(Case::read(&file), Ok(case));
+            let values = grammar::Case {
+                p,
+                n: n as u64,
+                allowance,
+                matrix: m.concat(),
+                candidates: cs.concat(),
+            };
+            assert_eq!(grammar::values(&wide(&file)), Some(values));
+        }
+    }
+
+    /// Every sample that is a case: one with an `A` record is rewritten to itself; any other gets
+    /// one, with the allowance that it has without.
+    #[test]
+    fn a_case_with_its_allowance_is_rewritten_to_itself() {
+        let folder = concat!(env!("CARGO_MANIFEST_DIR"), "/../../cases");
+        let (mut stating, mut others) = (0, 0);
+        for entry in std::fs::read_dir(folder).expect("the samples are there") {
+            let path = entry.expect("a sample").path();
+            let file = std::fs::read(&path).expect("a file");
+            let Some(case) = grammar::values(&wide(&file)) else {
+                continue;
+            };
+            let (n, a) = (case.n as usize, case.allowance);
+            let found = written(case.p, n, &case.matrix, &case.candidates, a);
+            if file[5] == b'A' {
+                assert_eq!(found, file, "{path:?}");
+                stating += 1;
+            } else {
+                let rest = [&file[..4], &[255, b'A', 64, 0], &file[4..]].concat();
+                assert_eq!(found, rest, "{path:?}");
+                others += 1;
+            }
+        }
+        assert!(stating != 0 && others != 0, "{stating}, {others}");
+    }
+
+    #[test]
+    fn an_allowance_that_no_case_can_state() {
+        let write = |k: u32| refused(&format!("write 2 | 1 | 0 | | {k} | 13*0"));
+        assert_eq!(write(0), None);
+        assert_eq!(write(16_383), None);
+        for k in [16_384, 1 << 15, 1 << 16, 1 << 31, u32::MAX] {
+            assert_eq!(write(k), alone(ALLOWANCE), "{k}");
+            let stand = refused(&format!("stand 2 | 1 | 0 | | {k} | 2*0 | 0"));
+            assert_eq!(stand, None, "{k}");
+        }
+    }
+
+    /// Each test of the writer with the next one.
+    #[test]
+    fn of_two_neighbouring_tests_of_the_writer_the_first() {
+        let write = |text: &str| refused(&format!("write {text}"));
+        assert_eq!(write("4 | 0 | | | 9 | 10*0"), alone(PRIME));
+        assert_eq!(write("3 | 65 | | | 9 | 4365*0"), alone(SIZE));
+        assert_eq!(write("3 | 2 | 3*0 | 0 | 9 | 18*0"), alone(MATRIX));
+        assert_eq!(write("3 | 2 | 3*0 3 | 0 | 9 | 18*0"), alone(ROWS));
+        assert_eq!(write("3 | 2 | 4*0 | 258*0 | 9 | 534*0"), alone(ROWS));
+        let bad = entry(MATRIX_ENTRY, 2, 2);
+        assert_eq!(write("3 | 2 | 3*0 3 | 0 3 | 9 | 22*0"), bad);
+        assert_eq!(write("3 | 2 | 3*0 3 | 0 0 | 16384 | 22*0"), bad);
+        let bad = entry(ROW_ENTRY, 1, 2);
+        assert_eq!(write("3 | 2 | 4*0 | 0 3 | 16384 | 22*0"), bad);
+        assert_eq!(write("3 | 2 | 4*0 | 0 3 | 9 | 21*0"), bad);
+        assert_eq!(write("3 | 2 | 4*0 | 0 0 | 16384 | 21*0"), alone(ALLOWANCE));
+        assert_eq!(write("3 | 2 | 4*0 | 0 0 | 9 | 21*0"), alone(BUFFERS));
+        assert_eq!(write("3 | 2 | 4*0 | 0 0 | 9 | 22*0"), None);
     }
 
     #[test]

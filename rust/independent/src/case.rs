@@ -5,6 +5,8 @@ use crate::naive::{is_prime, Matrix, Row};
 
 pub const DEFAULT_ALLOWANCE: u64 = 8_192;
 pub const MOST_CANDIDATES: usize = 128;
+/// The largest allowance that a case can state: both numbers of its `A` record are at most 127.
+pub const MOST_STATED: u64 = 128 * 127 + 127;
 
 #[derive(Debug, Clone, PartialEq, Eq)]
 pub struct Case {
@@ -53,7 +55,7 @@ impl Case {
         is_prime(self.p)
             && (1..=64).contains(&n)
             && self.candidates.len() <= MOST_CANDIDATES
-            && self.stated.unwrap_or(0) < 128 * 128
+            && self.stated.unwrap_or(0) <= MOST_STATED
             && rows.all(|row| row.len() == n && row.iter().all(|&x| x < self.p))
     }
 
@@ -87,6 +89,12 @@ impl Case {
         let found = Case::of_front(file).find(|case| case.bytes() == file);
         found.ok_or_else(|| place(file))
     }
+}
+
+/// The bytes of a case that states its allowance: those of `F`, `A` and `E`, and the mark and the
+/// entries of each row and candidate.
+pub fn stating_length(n: usize, candidates: usize) -> usize {
+    4 + 4 + 2 + (n + candidates) * (2 + n)
 }
 
 /// Whether some continuation makes the front a well-formed case.
@@ -124,10 +132,12 @@ mod tests {
             p: 251,
             matrix: vec![vec![250; 64]; 64],
             candidates: vec![vec![250; 64]; 128],
-            stated: Some(16_383),
+            stated: Some(MOST_STATED),
         };
         let mut file = case.bytes();
         assert_eq!(file.len(), 12_682);
+        assert_eq!(stating_length(64, 128), 12_682);
+        assert_eq!(file[4..8], [255, b'A', 127, 127]);
         assert_eq!(Case::read(&file), Ok(case));
         file.push(255);
         assert_eq!(Case::read(&file), Err(12_682));
