@@ -58,7 +58,9 @@ impl Draft {
             Name::Inverse => vec![],
             Name::Order => vec![m.concat(), row],
             Name::Image => vec![m.concat(), row, numbers.row(self.below, length)],
-            Name::Stand | Name::Chain => vec![m.concat(), self.candidates(numbers, &m).concat()],
+            Name::Stand | Name::Chain | Name::Write => {
+                vec![m.concat(), self.candidates(numbers, &m).concat()]
+            }
             Name::Period => vec![m.concat()],
             Name::Sheet => vec![numbers.row(LARGEST_PRIME, length)],
         }
@@ -66,7 +68,7 @@ impl Draft {
 
     fn scalar_or_allowance(&self, numbers: &mut Numbers, name: Name) -> u64 {
         match name {
-            Name::Stand => stated(numbers, self.laid).unwrap_or(DEFAULT_ALLOWANCE),
+            Name::Stand | Name::Write => stated(numbers, self.laid).unwrap_or(DEFAULT_ALLOWANCE),
             _ => self.scalar(numbers),
         }
     }
@@ -83,20 +85,29 @@ impl Draft {
     /// A call without faults, but for those of its numbers. What it reads as a file is no case.
     pub fn call(&self, numbers: &mut Numbers, name: Name) -> Call {
         let lists = self.lists(numbers, name);
-        let mut slices: Vec<Vec<u8>> = lists.iter().map(|list| bytes(list)).collect();
-        for room in name.rooms(self.laid) {
-            let spare = numbers.place(3);
-            slices.push(numbers.bytes(room + spare));
-        }
         let mut call = Call {
             name,
             p: self.p,
             n: self.n,
             k: self.scalar_or_allowance(numbers, name) as u32,
-            slices,
+            slices: lists.iter().map(|list| bytes(list)).collect(),
         };
+        for room in call.rooms(self.laid) {
+            let spare = numbers.place(3);
+            call.slices.push(numbers.bytes(room + spare));
+        }
         call.drop_unused();
         call
+    }
+}
+
+/// Makes every result buffer long enough for what the call reads, rows having n entries.
+pub fn make_room(call: &mut Call, n: usize) {
+    let rooms = call.rooms(n);
+    let buffers = &mut call.slices[call.name.results()];
+    for (buffer, room) in buffers.iter_mut().zip(rooms) {
+        let length = buffer.len().max(room);
+        buffer.resize(length, 0);
     }
 }
 

@@ -1,14 +1,14 @@
 //! Calls with faults: for every set of at most three of a call's tests, inputs to which these tests apply and no other. There are several ways to
 //! have each fault, and a set is made in all of them. A few ways bring a later fault with them: p = 0 leaves no entry that is below p, and a size
 //! past every slice leaves no slice of the right length.
-use crate::draft::Draft;
+use crate::draft::{make_room, Draft};
 use crate::lend::NO_INVERSE;
 use crate::made::primes;
 use independent::calls::{
-    Call, Name, BUFFERS, COEFFICIENT, MATRIX, MATRIX_ENTRY, MOST_COEFFICIENTS, POLYNOMIAL, PRIME,
-    ROWS, ROW_ENTRY, SIZE, TABLE, WIDEST,
+    Call, Name, ALLOWANCE, BUFFERS, COEFFICIENT, MATRIX, MATRIX_ENTRY, MOST_COEFFICIENTS,
+    POLYNOMIAL, PRIME, ROWS, ROW_ENTRY, SIZE, WIDEST,
 };
-use independent::case::MOST_CANDIDATES;
+use independent::case::{MOST_CANDIDATES, MOST_STATED};
 use independent::naive::LARGEST_PRIME;
 use independent::numbers::Numbers;
 use std::iter::repeat_n;
@@ -49,9 +49,29 @@ fn tests(name: Name) -> &'static [u8] {
         Name::Order | Name::Stand | Name::Chain => {
             &[PRIME, SIZE, MATRIX, ROWS, MATRIX_ENTRY, ROW_ENTRY, BUFFERS]
         }
-        Name::Image => &TABLE,
+        Name::Image => &[
+            PRIME,
+            SIZE,
+            MATRIX,
+            ROWS,
+            POLYNOMIAL,
+            MATRIX_ENTRY,
+            ROW_ENTRY,
+            COEFFICIENT,
+            BUFFERS,
+        ],
         Name::Period => &[PRIME, SIZE, MATRIX, MATRIX_ENTRY],
         Name::Sheet => &[BUFFERS],
+        Name::Write => &[
+            PRIME,
+            SIZE,
+            MATRIX,
+            ROWS,
+            MATRIX_ENTRY,
+            ROW_ENTRY,
+            ALLOWANCE,
+            BUFFERS,
+        ],
     }
 }
 
@@ -77,6 +97,7 @@ fn ways(name: Name, test: u8) -> std::ops::Range<usize> {
         POLYNOMIAL => POLYNOMIALS.len(),
         COEFFICIENT if name == Name::Inverse => SCALARS,
         MATRIX_ENTRY | ROW_ENTRY | COEFFICIENT => SPOILT.len() * VALUES,
+        ALLOWANCE => ALLOWANCES.len(),
         _ => name.results().len() * SHORT,
     }
 }
@@ -112,6 +133,9 @@ const POLYNOMIALS: [usize; 3] = [0, MOST_COEFFICIENTS + 1, 255];
 
 /// How many scalars are tried that are p or more.
 const SCALARS: usize = 5;
+
+/// Allowances that no case can state. Two of them are small in their low bytes.
+const ALLOWANCES: [u32; 4] = [MOST_STATED as u32 + 1, 1 << 16, (1 << 31) + 9, u32::MAX];
 
 /// Where a list is bad, in halves of the way through it: at its first, middle or last place, or at two of them, of which the earlier one is told.
 const SPOILT: [&[usize]; 5] = [&[0], &[1], &[2], &[0, 2], &[1, 2]];
@@ -151,12 +175,16 @@ fn faulty(numbers: &mut Numbers, primes: &[u64], name: Name, faults: &[Fault]) -
         match test {
             PRIME | SIZE => {}
             MATRIX => resize(&mut call.slices[0], square_sizes(draft.laid)[way])?,
-            ROWS => resize(&mut call.slices[1], row_sizes(name, draft.laid)[way])?,
+            ROWS => {
+                resize(&mut call.slices[1], row_sizes(name, draft.laid)[way])?;
+                make_room(&mut call, draft.laid);
+            }
             POLYNOMIAL => call.slices[2] = vec![0; POLYNOMIALS[way]],
             MATRIX_ENTRY => spoil(call.p, &mut call.slices[0], way)?,
             ROW_ENTRY => spoil(call.p, &mut call.slices[1], way)?,
             COEFFICIENT if name == Name::Inverse => call.k = scalars(call.p)[way],
             COEFFICIENT => spoil(call.p, &mut call.slices[2], way)?,
+            ALLOWANCE => call.k = ALLOWANCES[way],
             _ => shorten(&mut call, draft.laid, way)?,
         }
     }
@@ -227,7 +255,7 @@ fn spoilt_places(length: usize, way: usize) -> Option<impl Iterator<Item = usize
 
 /// A result buffer that is too short.
 fn shorten(call: &mut Call, n: usize, way: usize) -> Option<()> {
-    let room = call.name.rooms(n)[way / SHORT].checked_sub(1)?;
+    let room = call.rooms(n)[way / SHORT].checked_sub(1)?;
     let buffer = &mut call.slices[call.name.results()][way / SHORT];
     buffer.truncate([room, 0][way % SHORT]);
     Some(())
@@ -258,8 +286,9 @@ mod tests {
             ROW_ENTRY => bad(1),
             COEFFICIENT if call.name == Name::Inverse => call.p <= call.k,
             COEFFICIENT => bad(2),
+            ALLOWANCE => 16_383 < call.k,
             _ => {
-                let rooms = call.name.rooms(call.n.min(66) as usize);
+                let rooms = call.rooms(call.n.min(66) as usize);
                 let mut buffers = call.slices[call.name.results()].iter().zip(rooms);
                 buffers.any(|(buffer, room)| buffer.len() < room)
             }

@@ -275,6 +275,8 @@ impl<'a> Lender<'a> {
 #[cfg(test)]
 mod tests {
     use super::*;
+    use independent::calls::{ALLOWANCE, WIDEST};
+    use independent::case::{stating_length, MOST_CANDIDATES, MOST_STATED};
     use independent::lines::Line;
 
     fn call(text: &str) -> Call {
@@ -327,6 +329,7 @@ mod tests {
         assert_eq!(seen("period 3 | 2 | 0 1 2 0"), [4, 0, 0, 0, 0]);
         assert_eq!(seen("period 2 | 1 | 0"), [0; 5]);
         assert_eq!(seen("sheet | 2048*0"), [10, 0, 0, 0, 0]);
+        assert_eq!(seen("write 2 | 1 | 0 | | 9 | 13*0"), [13, 0, 0, 0, 0]);
     }
 
     /// Number, row and column, and nothing behind them.
@@ -343,14 +346,24 @@ mod tests {
         assert_eq!(seen("order 3 | 2 | 4*0 | 0 3 | 3*0"), [10, 1, 2]);
         assert_eq!(seen("image 3 | 1 | 0 | 0 | 1 0 3 | 0"), [11, 0, 3]);
         assert_eq!(seen("sheet | 0"), [6, 0, 0]);
+        assert_eq!(seen("write 2 | 1 | 0 | | 16384 | 13*0"), [9, 0, 0]);
     }
 
-    /// The number is passed on as it comes, so that the header could name another.
+    /// Numbers are passed on as they come, so that the header could name others.
     #[test]
-    fn the_header_has_the_number_for_no_inverse() {
+    fn the_header_has_the_numbers() {
         let header = include_str!("../../../include/kinarsop.h");
-        let named = format!("KINARSOP_NO_INVERSE = {NO_INVERSE}\n");
-        assert!(header.contains(&named), "{named}");
+        let longest = stating_length(WIDEST as usize, MOST_CANDIDATES) as u64;
+        for (name, number) in [
+            ("NO_INVERSE", NO_INVERSE.into()),
+            ("ALLOWANCE", ALLOWANCE.into()),
+            ("MOST_STATED", MOST_STATED),
+            ("LONGEST_CASE", longest),
+        ] {
+            let named = format!("KINARSOP_{name} = {number}");
+            let mut lines = header.lines().map(|line| line.trim().trim_end_matches(','));
+            assert!(lines.any(|line| line == named), "{named}");
+        }
     }
 
     #[test]

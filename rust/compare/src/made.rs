@@ -1,5 +1,5 @@
 //! Cases that look random and are the same in every run: machines of many kinds, with candidates and allowances of many kinds, and files with faults.
-use independent::case::{Case, MOST_CANDIDATES};
+use independent::case::{Case, MOST_CANDIDATES, MOST_STATED};
 use independent::naive::{
     companion, identity, is_prime, times_matrix, unit_row, Matrix, Row, LARGEST_PRIME,
 };
@@ -183,9 +183,6 @@ pub fn candidates(numbers: &mut Numbers, p: u64, m: &Matrix) -> Vec<Row> {
     }
     rows
 }
-
-/// The largest allowance that a case can state.
-pub const MOST_STATED: u64 = 16_383;
 
 /// The allowance that a case states, where it states one.
 pub fn stated(numbers: &mut Numbers, n: usize) -> Option<u64> {

@@ -1,8 +1,9 @@
 //! Changes of a call: those that may spoil it, and one that makes it sound again.
+use crate::draft::make_room;
 use crate::lend::{LONGEST, NO_INVERSE};
-use crate::made::{case_of, shuffle, smudge, MARK, MOST_STATED};
+use crate::made::{case_of, shuffle, smudge, MARK};
 use independent::calls::{Call, Name, MOST_COEFFICIENTS, SHEET_ROOM, WIDEST};
-use independent::case::{Case, MOST_CANDIDATES};
+use independent::case::{MOST_CANDIDATES, MOST_STATED};
 use independent::grammar;
 use independent::naive::{is_prime, Row, LARGEST_PRIME};
 use independent::numbers::Numbers;
@@ -47,7 +48,21 @@ const SIZES: [u64; 14] = [
     u64::MAX,
 ];
 
-const ALLOWANCES: [u32; 9] = [0, 1, 2, 64, 127, 128, 8_192, 1 << 31, u32::MAX];
+/// Ends of the ranges of both numbers that an allowance is stated by, and such as cannot be stated.
+const ALLOWANCES: [u64; 12] = [
+    0,
+    1,
+    2,
+    64,
+    127,
+    128,
+    8_192,
+    MOST_STATED,
+    MOST_STATED + 1,
+    1 << 16,
+    1 << 31,
+    u32::MAX as u64,
+];
 
 /// Lengths at the ends of the ranges of rows, polynomials and lists.
 const LENGTHS: [usize; 8] = [1, 2, 64, 65, 66, 128, 129, 4_096];
@@ -87,7 +102,7 @@ fn mutate_numbers_or_slices(numbers: &mut Numbers, call: &mut Call) {
     match numbers.below(12) {
         0 => change_modulus(numbers, call),
         1 => call.n = near_or_one_of(numbers, call.n, &SIZES),
-        2 => call.k = near_or_one_of(numbers, call.k.into(), &ALLOWANCES.map(u64::from)) as u32,
+        2 => call.k = near_or_one_of(numbers, call.k.into(), &ALLOWANCES) as u32,
         3 => resized(numbers, call),
         4..=6 => change_row(numbers, call),
         7 | 8 => change_entry(numbers, call),
@@ -265,7 +280,10 @@ fn mend_machine(numbers: &mut Numbers, call: &mut Call) {
         list.iter_mut()
             .for_each(|x| *x = (u32::from(*x) % call.p) as u8);
     }
-    make_room(call);
+    if call.name == Name::Write {
+        call.k = call.k.min(MOST_STATED as u32);
+    }
+    make_room(call, n);
 }
 
 /// The front of a list, or the list again and again; zeros where it is empty.
@@ -277,28 +295,20 @@ fn fit(list: &mut Vec<u8>, length: usize) {
     }
 }
 
-fn make_room(call: &mut Call) {
-    let rooms = call.name.rooms(call.n as usize);
-    let buffers = &mut call.slices[call.name.results()];
-    for (buffer, room) in buffers.iter_mut().zip(rooms) {
-        let length = buffer.len().max(room);
-        buffer.resize(length, 0);
-    }
-}
-
-/// A file that is a case is changed as the stand of its values is, and stays a case; any other is replaced.
+/// A file that is a case is changed as the call that writes it is, and stays a case; any other is
+/// replaced.
 fn mend_sheet(numbers: &mut Numbers, call: &mut Call) {
     let wide: Row = call.slices[0].iter().map(|&x| x.into()).collect();
     call.slices[0] = match grammar::values(&wide) {
         Some(values) => {
-            let mut stand = stand_of(&values);
-            mutate_numbers_or_slices(numbers, &mut stand);
-            mend(numbers, &mut stand);
-            file_of(numbers, &stand)
+            let mut write = write_of(&values);
+            mutate_numbers_or_slices(numbers, &mut write);
+            mend(numbers, &mut write);
+            file_of(numbers, &write)
         }
         None => some_file(numbers),
     };
-    make_room(call);
+    make_room(call, 0); // that of a sheet is the same for every size
 }
 
 /// The file of a small machine.
@@ -308,43 +318,37 @@ pub fn some_file(numbers: &mut Numbers) -> Vec<u8> {
     case_of(numbers, p, n).0.bytes()
 }
 
-fn stand_of(values: &grammar::Case) -> Call {
+/// The call that writes a case with these values.
+fn write_of(values: &grammar::Case) -> Call {
     let bytes = |list: &[u64]| list.iter().map(|&x| x as u8).collect();
-    Call {
-        name: Name::Stand,
+    let mut call = Call {
+        name: Name::Write,
         p: values.p as u32,
         n: values.n,
         k: values.allowance as u32,
-        slices: vec![
-            bytes(&values.matrix),
-            bytes(&values.candidates),
-            vec![],
-            vec![],
-        ],
-    }
+        slices: vec![bytes(&values.matrix), bytes(&values.candidates), vec![]],
+    };
+    make_room(&mut call, values.n as usize);
+    call
 }
 
-/// The case that a stand without a fault is of. The allowance is now and then left out.
-fn file_of(numbers: &mut Numbers, stand: &Call) -> Vec<u8> {
-    let wide = |row: &[u8]| row.iter().map(|&x| x.into()).collect();
-    let rows = |k: usize| stand.slices[k].chunks(stand.n as usize).map(wide).collect();
-    let stated = (!numbers.once_in(4)).then_some(MOST_STATED.min(stand.k.into()));
-    let case = Case {
-        p: stand.p.into(),
-        matrix: rows(0),
-        candidates: rows(1),
-        stated,
-    };
+/// The file that a call without a fault writes. The allowance is now and then left out.
+fn file_of(numbers: &mut Numbers, write: &Call) -> Vec<u8> {
+    let mut case = write.case();
+    if numbers.once_in(4) {
+        case.stated = None;
+    }
     case.bytes()
 }
 
 #[cfg(test)]
 mod tests {
     use super::*;
-    use independent::calls::refusal;
+    use crate::rounds;
+    use independent::calls::{outcome, refusal, Answer};
     use independent::lines::Line;
 
-    const LINES: [&str; 7] = [
+    const LINES: [&str; 8] = [
         "inverse 0 | 999",
         "order 4 | 0 | | 255 | ",
         "image 300 | 2 | 1 2 3 | | | 1",
@@ -352,10 +356,16 @@ mod tests {
         "chain 251 | 1 | 0 | 200*9 | | 1",
         "period 1 | 18446744073709551615 | 5*5",
         "sheet 255 70 | 12*0",
+        "write 9 | 2 | 5*9 | 300*8 | 4294967295 | 3*0",
     ];
 
     fn calls() -> impl Iterator<Item = Call> {
         LINES.iter().map(|text| Call::of_line(&Line::parse(text)))
+    }
+
+    fn sheet() -> Call {
+        let mut sheets = calls().filter(|call| call.name == Name::Sheet);
+        sheets.next().expect("there is one")
     }
 
     #[test]
@@ -374,11 +384,10 @@ mod tests {
     #[test]
     fn a_sheet_that_is_mended_is_of_a_case() {
         let mut numbers = Numbers(2);
-        let mut call = calls().last().expect("the sheet");
+        let mut call = sheet();
         for _ in 0..100 {
             mend(&mut numbers, &mut call);
-            let wide: Row = call.slices[0].iter().map(|&x| x.into()).collect();
-            assert!(grammar::values(&wide).is_some(), "{}", call.line());
+            assert!(values(&call.slices[0]).is_some(), "{}", call.line());
         }
     }
 
@@ -392,10 +401,60 @@ mod tests {
         assert_eq!(mended, call);
     }
 
+    fn values(file: &[u8]) -> Option<grammar::Case> {
+        let wide: Row = file.iter().map(|&x| x.into()).collect();
+        grammar::values(&wide)
+    }
+
+    /// What a call that is answered writes.
+    fn written(call: &Call) -> Option<Vec<u8>> {
+        let outcome = outcome(call);
+        match outcome.answer {
+            Answer::Length(length) => Some(outcome.slices[2][..length].to_vec()),
+            _ => None,
+        }
+    }
+
+    /// The call that reads what was written and writes it again is the one that wrote it.
+    #[test]
+    fn what_is_written_is_read_back() {
+        let inputs = (0..10).flat_map(|round| rounds::inputs(6, round));
+        let writes = inputs.map(|x| x.call).filter(|x| x.name == Name::Write);
+        let mut count = 0;
+        for mut call in writes {
+            let Some(file) = written(&call) else {
+                continue;
+            };
+            let again = write_of(&values(&file).expect("a case is written"));
+            call.slices[2] = again.slices[2].clone();
+            assert_eq!(again, call);
+            count += 1;
+        }
+        assert!(500 < count, "{count}");
+    }
+
+    /// Of the files of the fuzzer.
+    #[test]
+    fn a_case_that_states_its_allowance_is_rewritten_to_itself() {
+        let inputs = (0..10).flat_map(|round| rounds::inputs(6, round));
+        let sheets = inputs.map(|x| x.call).filter(|x| x.name == Name::Sheet);
+        let (mut stating, mut others) = (0, 0);
+        for file in sheets.map(|call| call.slices[0].clone()) {
+            let Some(values) = values(&file) else {
+                continue;
+            };
+            let again = written(&write_of(&values)).expect("the values of a case are sound");
+            assert_eq!(again == file, file[5] == b'A', "{file:?}");
+            stating += u32::from(again == file);
+            others += u32::from(again != file);
+        }
+        assert!(200 < stating && 50 < others, "{stating}, {others}");
+    }
+
     #[test]
     fn no_slice_is_too_long_to_be_lent() {
         let mut numbers = Numbers(4);
-        let mut call = calls().last().expect("the sheet");
+        let mut call = sheet();
         call.slices[0] = vec![MARK; LONGEST];
         for _ in 0..200 {
             mutate(&mut numbers, &mut call);

@@ -13,7 +13,7 @@ use independent::numbers::Numbers;
 pub const ROUND: usize = 1_000;
 
 /// How many calls of each kind the pool has.
-const POOL: [(Name, usize); 7] = [
+const POOL: [(Name, usize); 8] = [
     (Name::Inverse, 2),
     (Name::Order, 8),
     (Name::Image, 8),
@@ -21,6 +21,7 @@ const POOL: [(Name, usize); 7] = [
     (Name::Chain, 8),
     (Name::Period, 7),
     (Name::Sheet, 10),
+    (Name::Write, 8),
 ];
 
 /// The moduli of the pool.
@@ -120,7 +121,7 @@ fn cost(call: &Call) -> u64 {
     let n = call.n;
     let rows = |k: usize| call.slices[k].len() as u64 / n;
     match call.name {
-        Name::Inverse | Name::Image => 0,
+        Name::Inverse | Name::Image | Name::Write => 0,
         Name::Order => orders(n, 1),
         Name::Stand | Name::Chain => orders(n, 2 + rows(1)),
         Name::Period => walks(call.p.into(), n),

@@ -85,6 +85,8 @@ mod tests {
             "order 5 | 1 | 5 | 0 | 2*0",
             "order 5 | 1 | 0 | 5 | 2*0",
             "sheet | 2048*0",
+            "write 5 | 1 | 0 | | 16384 | 13*0",
+            "write 5 | 1 | 0 | | 16383 | 13*0",
         ];
         for text in lines {
             let call = Call::of_line(&Line::parse(text));
@@ -92,12 +94,12 @@ mod tests {
         }
         let mut twice = tally.clone();
         twice.add(&tally);
-        assert_eq!((twice.inputs(), twice.answered()), (12, 2));
+        assert_eq!((twice.inputs(), twice.answered()), (16, 4));
         assert_eq!(twice.sum(|_, sort| sort == NO_CASE), 2);
         let lines: Vec<String> = twice.to_string().lines().map(str::to_string).collect();
         assert_eq!(lines.len(), 2 + Name::ALL.len());
         let words = |k: usize| lines[k].split_whitespace().collect::<Vec<&str>>().join(" ");
-        assert_eq!(words(0), "call inputs answered 1 2 3 4 7 5 10 11 6 8");
-        assert_eq!(words(8), "all 12 2 2 0 0 0 0 2 2 2 0 2");
+        assert_eq!(words(0), "call inputs answered 1 2 3 4 7 5 10 11 9 6 8");
+        assert_eq!(words(9), "all 16 4 2 0 0 0 0 2 2 2 2 0 2");
     }
 }
