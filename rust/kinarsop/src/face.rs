@@ -71,6 +71,12 @@ pub(crate) struct SheetAnswer {
     pub(crate) length: usize,
 }
 
+#[repr(C)]
+pub(crate) struct WriteAnswer {
+    pub(crate) refusal: RefusalAnswer,
+    pub(crate) length: usize,
+}
+
 // As in include/kinarsop.h.
 extern "C" {
     fn kinarsop_inverse(p: u32, a: u32) -> InverseAnswer;
@@ -134,6 +140,18 @@ extern "C" {
         out: *mut u8,
         out_length: usize,
     ) -> SheetAnswer;
+
+    fn kinarsop_write(
+        p: u32,
+        n: usize,
+        m: *const u8,
+        m_length: usize,
+        cs: *const u8,
+        cs_length: usize,
+        allowance: u32,
+        out: *mut u8,
+        out_length: usize,
+    ) -> WriteAnswer;
 }
 
 pub(crate) fn inverse(p: u32, a: u32) -> InverseAnswer {
@@ -253,4 +271,29 @@ pub(crate) fn sheet(file: &[u8], text: &mut [u8]) -> SheetAnswer {
     // SAFETY: each pointer comes with its slice's length, the slices live beyond the call, and only the one lent by `&mut`, which shares no byte with
     // another, is written.
     unsafe { kinarsop_sheet(file.as_ptr(), file.len(), text.as_mut_ptr(), text.len()) }
+}
+
+pub(crate) fn write(
+    p: u32,
+    n: usize,
+    matrix: &[u8],
+    candidates: &[u8],
+    allowance: u32,
+    file: &mut [u8],
+) -> WriteAnswer {
+    // SAFETY: each pointer comes with its slice's length, the slices live beyond the call, and only
+    // the one lent by `&mut`, which shares no byte with another, is written.
+    unsafe {
+        kinarsop_write(
+            p,
+            n,
+            matrix.as_ptr(),
+            matrix.len(),
+            candidates.as_ptr(),
+            candidates.len(),
+            allowance,
+            file.as_mut_ptr(),
+            file.len(),
+        )
+    }
 }

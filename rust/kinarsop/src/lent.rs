@@ -1,5 +1,5 @@
-//! What was lent to a call, to say of a bad entry what it is.
-use crate::Refusal;
+//! What was lent to a call, to say what a bad entry is, or an allowance that no case can state.
+use crate::{Refusal, MOST_STATED};
 
 /// The numbers and the lists that a refusal can be about. What a call does not take is 0, empty or nothing.
 #[derive(Default)]
@@ -11,6 +11,8 @@ pub(crate) struct Lent<'a> {
     pub(crate) candidates: &'a [u8],
     pub(crate) polynomial: &'a [u8],
     pub(crate) scalar: Option<u32>,
+    /// The allowance of a call that writes it.
+    pub(crate) stated: Option<u32>,
 }
 
 impl<'a> Lent<'a> {
@@ -67,6 +69,12 @@ impl Lent<'_> {
     pub(crate) fn scalar(&self, row: usize, column: usize) -> Option<Refusal> {
         let found = self.scalar.filter(|&a| self.p <= a)?;
         ((row, column) == (0, 1)).then_some(Refusal::Scalar { found, p: self.p })
+    }
+
+    /// The refusal of an allowance; nothing where none is to be written, or where it can be.
+    pub(crate) fn allowance(&self) -> Option<Refusal> {
+        let found = self.stated.filter(|&a| MOST_STATED < a)?;
+        Some(Refusal::Allowance { found })
     }
 
     fn bad_in_rows(&self, rows: &[u8], row: usize, column: usize) -> Option<u8> {

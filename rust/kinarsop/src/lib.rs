@@ -76,6 +76,9 @@ pub const MOST_CANDIDATES: usize = 128;
 /// An allowance that pays for every list of candidates: 128 orders of degree 64. It is that of a case file that states none.
 pub const FULL_ALLOWANCE: u32 = 8_192;
 
+/// The largest allowance that a case file can state.
+pub const MOST_STATED: u32 = 16_383;
+
 /// The bytes of the longest case file. Of a longer file one byte more is enough: with all of them the sheet is refused at the same place.
 pub const LONGEST_CASE: usize = 12_682;
 
@@ -291,4 +294,43 @@ pub fn sheet(file: &[u8]) -> Result<String, Refusal> {
             Err(Refusal::File { place })
         }
     }
+}
+
+/// The case file of a machine, its candidates and an allowance, which the file always states: the
+/// bytes that [`sheet`] takes. A case file that states its allowance is written as it was when its
+/// values are lent, byte for byte.
+///
+/// Refused: [`Prime`](Refusal::Prime), [`Size`](Refusal::Size), [`Matrix`](Refusal::Matrix),
+/// [`Rows`](Refusal::Rows), [`MatrixEntry`](Refusal::MatrixEntry),
+/// [`CandidateEntry`](Refusal::CandidateEntry); [`Allowance`](Refusal::Allowance) where it is over
+/// [`MOST_STATED`].
+///
+/// ```
+/// use kinarsop::{sheet, write, Refusal, FULL_ALLOWANCE};
+///
+/// let (matrix, candidates) = ([0, 1, 2, 0], [1, 0]);
+/// let file = write(3, 2, &matrix, &candidates, FULL_ALLOWANCE)?;
+/// assert_eq!(file, b"\xffF\x03\x02\xffA\x40\x00\xffR\x00\x01\xffR\x02\x00\xffC\x01\x00\xffE");
+/// assert!(sheet(&file)?.starts_with("FIELD 3 2\nSTAND proved 1 2\n"));
+///
+/// let refused = write(3, 2, &matrix, &candidates, 16_384);
+/// assert_eq!(refused, Err(Refusal::Allowance { found: 16_384 }));
+/// # Ok::<(), Refusal>(())
+/// ```
+pub fn write(
+    p: u32,
+    n: usize,
+    matrix: &[u8],
+    candidates: &[u8],
+    allowance: u32,
+) -> Result<Vec<u8>, Refusal> {
+    let mut file = [0; LONGEST_CASE];
+    let answer = face::write(p, n, matrix, candidates, allowance, &mut file);
+    let lent = Lent {
+        candidates,
+        stated: Some(allowance),
+        ..Lent::machine(p, n, matrix)
+    };
+    Refusal::read(answer.refusal, &lent)?;
+    Ok(file[..answer.length].to_vec())
 }

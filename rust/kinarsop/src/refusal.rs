@@ -1,6 +1,7 @@
 //! The refusals.
 use crate::face::RefusalAnswer;
 use crate::lent::Lent;
+use crate::{FULL_ALLOWANCE, MOST_STATED};
 use std::error::Error;
 use std::fmt;
 
@@ -93,6 +94,12 @@ pub enum Refusal {
         /// The modulus of the call.
         p: u32,
     },
+    /// Number 9, of a case that is to be written: the allowance is over
+    /// [`MOST_STATED`](crate::MOST_STATED).
+    Allowance {
+        /// The allowance.
+        found: u32,
+    },
     /// Number 8: the file is no case.
     File {
         /// The first offset, counted from 0, at which the bytes can no longer be the beginning of a case. It is the file's length where the file is
@@ -117,6 +124,7 @@ impl Refusal {
             Refusal::MatrixEntry { .. } => 5,
             Refusal::RowEntry { .. } | Refusal::CandidateEntry { .. } => 10,
             Refusal::Coefficient { .. } | Refusal::Scalar { .. } => 11,
+            Refusal::Allowance { .. } => 9,
             Refusal::File { .. } => 8,
         }
     }
@@ -144,7 +152,8 @@ impl Refusal {
 
     /// What the refusal in an answer of the face says of what was lent; number 0 is an answered call. The library cannot give 6, since enough room is
     /// lent, nor 8, since it answers a file that is no case with a text; nor a place beside a number that is about no entry, nor one where no bad
-    /// entry is: another library is linked, and its answers are worth nothing.
+    /// entry is, nor 9 where the allowance can be stated: another library is linked, and its
+    /// answers are worth nothing.
     pub(crate) fn read(told: RefusalAnswer, lent: &Lent) -> Result<(), Refusal> {
         let RefusalAnswer {
             number,
@@ -165,6 +174,7 @@ impl Refusal {
             (11, ..) => lent
                 .coefficient(row, column)
                 .or_else(|| lent.scalar(row, column)),
+            (9, 0, 0) => lent.allowance(),
             _ => None,
         };
         Err(refusal.unwrap_or_else(|| {
@@ -236,6 +246,11 @@ impl fmt::Display for Refusal {
                 f.write_str("the scalar")?;
                 write_found(f, found, p)
             }
+            Refusal::Allowance { found } => write!(
+                f,
+                "the allowance is {found}: a case file can state 0 to {MOST_STATED}; \
+                 {FULL_ALLOWANCE} pays for every list"
+            ),
             Refusal::File { place } => write!(
                 f,
                 "the file stops being a case at offset {place}: \
@@ -252,7 +267,8 @@ mod tests {
     use super::*;
     use std::panic::catch_unwind;
 
-    /// A matrix, candidates and a polynomial, each with one bad entry.
+    /// A matrix, candidates and a polynomial, each with one bad entry, and an allowance that no
+    /// case can state.
     const LENT: Lent = Lent {
         p: 5,
         n: 2,
@@ -261,6 +277,7 @@ mod tests {
         candidates: &[4, 4, 4, 4, 4, 6],
         polynomial: &[4, 4, 255],
         scalar: None,
+        stated: Some(MOST_STATED + 1),
     };
 
     fn read(number: u8, row: usize, column: usize, lent: &Lent) -> Result<(), Refusal> {
@@ -275,7 +292,7 @@ mod tests {
     #[test]
     fn numbers_are_read_back() {
         assert_eq!(read(0, 0, 0, &LENT), Ok(()));
-        for number in [1, 2, 3, 4, 7] {
+        for number in [1, 2, 3, 4, 7, 9] {
             let refusal = read(number, 0, 0, &LENT).unwrap_err();
             assert_eq!(refusal.number(), number);
             assert_eq!(refusal.row_and_column(), None);
@@ -333,10 +350,26 @@ mod tests {
             (4, 0, 0),
             (5, 2, 1),
             (7, 0, 0),
+            (9, 0, 0),
             (10, 3, 2),
             (11, 0, 3),
         ];
         assert_eq!(taken, expected);
+    }
+
+    #[test]
+    fn the_allowance_is_told() {
+        let expected = Refusal::Allowance { found: 16_384 };
+        assert_eq!(read(9, 0, 0, &LENT), Err(expected));
+    }
+
+    /// One that can be stated, and one that a call does not write.
+    #[test]
+    fn no_other_allowance_is_refused() {
+        for stated in [Some(MOST_STATED), Some(0), None] {
+            let is_read = || read(9, 0, 0, &Lent { stated, ..LENT });
+            assert!(catch_unwind(is_read).is_err(), "{stated:?}");
+        }
     }
 
     #[test]

@@ -1,9 +1,11 @@
 //! The library against the independent implementation, on made inputs that are the same in every run.
 use independent::calls::{self, Call, Name};
+use independent::grammar;
 use independent::naive::{self, Matrix, Row};
 use independent::numbers::Numbers;
 use independent::sheet::printed;
-use kinarsop::{chain, image, inverse, order, period, sheet, stand, Chain, Refusal, Stand};
+use kinarsop::{chain, image, inverse, order, period, sheet, stand, write};
+use kinarsop::{Chain, Refusal, Stand};
 use std::collections::HashSet;
 
 const PRIMES: [u64; 10] = [2, 2, 2, 3, 3, 5, 7, 11, 127, 251];
@@ -195,15 +197,16 @@ fn spoil(numbers: &mut Numbers, p: u64, list: &mut [u8]) {
 
 /// The number, the row and the column by which the independent implementation refuses a call that is lent these lists and enough room.
 fn told(made: &Made, name: Name, read: &[&[u8]]) -> Option<(u8, Option<(usize, usize)>)> {
-    let mut slices: Vec<Vec<u8>> = read.iter().map(|list| list.to_vec()).collect();
-    slices.extend(name.rooms(made.n).into_iter().map(|room| vec![0; room]));
-    let refusal = calls::refusal(&Call {
+    let mut call = Call {
         name,
         p: made.p(),
         n: made.n as u64,
         k: 0,
-        slices,
-    })?;
+        slices: read.iter().map(|list| list.to_vec()).collect(),
+    };
+    let rooms = call.rooms(made.n).into_iter();
+    call.slices.extend(rooms.map(|room| vec![0; room]));
+    let refusal = calls::refusal(&call)?;
     let place = refusal.place.map(|place| (place.row, place.column));
     Some((refusal.number, place))
 }
@@ -231,6 +234,7 @@ fn bad_entries() {
             stand(p, n, &m, &cs, 0).err(),
             chain(p, n, &m, &cs).err(),
             period(p, n, &m).err(),
+            write(p, n, &m, &cs, 0).err(),
         ];
         let expected = [
             told(&made, Name::Image, &[&m, &v, &f]),
@@ -238,6 +242,7 @@ fn bad_entries() {
             told(&made, Name::Stand, &[&m, &cs]),
             told(&made, Name::Chain, &[&m, &cs]),
             told(&made, Name::Period, &[&m]),
+            told(&made, Name::Write, &[&m, &cs]),
         ];
         let found = found.map(|x| x.map(|x| (x.number(), x.row_and_column())));
         assert_eq!(found, expected);
@@ -246,6 +251,33 @@ fn bad_entries() {
     let numbers: HashSet<u8> = seen.iter().map(|(number, _)| *number).collect();
     assert_eq!(numbers, HashSet::from([5, 10, 11]));
     assert!(100 < seen.len(), "{}", seen.len());
+}
+
+/// What is written is the case file, byte for byte; a reader gets the values that were lent, and
+/// these written again are the same file.
+#[test]
+fn cases_written_and_read_back() {
+    let mut numbers = Numbers(16);
+    let mut allowances = HashSet::new();
+    for _ in 0..1_000 {
+        let mut made = Made::new(&mut numbers, 9);
+        made.allowance = numbers.below(16_384);
+        allowances.insert(made.allowance);
+        let (m, cs) = (made.matrix(), made.candidates());
+        let file = write(made.p(), made.n, &m, &cs, made.allowance as u32).unwrap();
+        assert_eq!(file, made.file());
+
+        let wide: Row = file.iter().map(|&x| x.into()).collect();
+        let read = grammar::values(&wide).expect("a case is written");
+        let n = read.n as usize;
+        assert_eq!((read.p, n), (made.p, made.n));
+        assert_eq!(read.allowance, made.allowance);
+        let (m_read, cs_read) = (bytes(&read.matrix), bytes(&read.candidates));
+        assert_eq!((&m_read, &cs_read), (&m, &cs));
+        let again = write(read.p as u32, n, &m_read, &cs_read, read.allowance as u32);
+        assert_eq!(again, Ok(file));
+    }
+    assert!(500 < allowances.len(), "{}", allowances.len());
 }
 
 /// Case files, whole and with a byte changed, left out or put in. They are few and small, since the independent reader tries every shape of a case.

@@ -1,5 +1,5 @@
-//! 01's figures P1 to P11, and orders, images and inverses that are seen at a glance.
-use kinarsop::{chain, image, inverse, order, period, stand, Chain, Refusal, Stand};
+//! 01's figures P1 to P11, and orders, images, inverses and case files that are seen at a glance.
+use kinarsop::{chain, image, inverse, order, period, stand, write, Chain, Refusal, Stand};
 
 fn proved(minimal_polynomial: &[u8], taken: usize, spent: u32) -> Stand {
     Stand::Proved {
@@ -120,6 +120,19 @@ fn images() {
     assert_eq!(of(&[2, 0, 1]), [0, 0]);
     assert_eq!(of(&[0, 1, 0, 0, 0]), [1, 2]);
     assert_eq!(image(2, 2, &[0, 1, 0, 0], &[1, 0], &[0, 1]), Ok(vec![0, 1]));
+}
+
+/// 01's 18 bytes, with record A; the smallest case; several rows and candidates.
+#[test]
+fn case_files() {
+    let file = b"\xffF\x03\x02\xffA\x40\x00\xffR\x00\x01\xffR\x02\x00\xffC\x01\x00\xffE";
+    assert_eq!(write(3, 2, &[0, 1, 2, 0], &[1, 0], 8_192).unwrap(), file);
+    let file = b"\xffF\x02\x01\xffA\x00\x00\xffR\x00\xffE";
+    assert_eq!(write(2, 1, &[0], &[], 0).unwrap(), file);
+    let rows = b"\xffR\x01\x02\xffR\x03\x04\xffC\x05\x06\xffC\x07\x08\xffC\x09\x0a\xffE";
+    let file = [b"\xffF\xfb\x02\xffA\x7f\x7f", &rows[..]].concat();
+    let found = write(251, 2, &[1, 2, 3, 4], &[5, 6, 7, 8, 9, 10], 16_383);
+    assert_eq!(found, Ok(file));
 }
 
 #[test]

@@ -1,11 +1,11 @@
 //! Every number of every call, two faults at once, the places of bad entries, the bounds, empty slices, and what an error says.
 use independent::naive::is_prime;
-use kinarsop::{chain, image, inverse, order, period, sheet, stand, Refusal, Stand};
-use kinarsop::{LARGEST_N, LARGEST_PRIME, MOST_CANDIDATES};
+use kinarsop::{chain, image, inverse, order, period, sheet, stand, write, Refusal, Stand};
+use kinarsop::{LARGEST_N, LARGEST_PRIME, MOST_CANDIDATES, MOST_STATED};
 use std::collections::HashSet;
 
 /// 01's table, in its sequence; 6 and 8 cannot come from these calls.
-const TABLE: [u8; 8] = [1, 2, 3, 4, 7, 5, 10, 11];
+const TABLE: [u8; 9] = [1, 2, 3, 4, 7, 5, 10, 11, 9];
 
 /// What is lent to a call.
 #[derive(Clone)]
@@ -17,6 +17,7 @@ struct Lent {
     row: Vec<u8>,
     candidates: Vec<u8>,
     polynomial: Vec<u8>,
+    allowance: u32,
 }
 
 /// Nothing here is refused.
@@ -29,6 +30,7 @@ fn good() -> Lent {
         row: vec![1, 0],
         candidates: vec![1, 0, 0, 1],
         polynomial: vec![1, 0, 1],
+        allowance: 9,
     }
 }
 
@@ -41,17 +43,18 @@ enum Part {
     Row,
     Candidates,
     Polynomial,
+    Allowance,
 }
 use Part::*;
 
-/// A call: what it takes, and how it ends.
+/// A call: what it takes and can be refused for, and how it ends.
 struct Call {
     name: &'static str,
     takes: &'static [Part],
     made: fn(&Lent) -> Result<(), Refusal>,
 }
 
-const CALLS: [Call; 6] = [
+const CALLS: [Call; 7] = [
     Call {
         name: "inverse",
         takes: &[P, A],
@@ -70,7 +73,7 @@ const CALLS: [Call; 6] = [
     Call {
         name: "stand",
         takes: &[P, N, Matrix, Candidates],
-        made: |l| stand(l.p, l.n, &l.matrix, &l.candidates, 9).map(drop),
+        made: |l| stand(l.p, l.n, &l.matrix, &l.candidates, l.allowance).map(drop),
     },
     Call {
         name: "chain",
@@ -81,6 +84,11 @@ const CALLS: [Call; 6] = [
         name: "period",
         takes: &[P, N, Matrix],
         made: |l| period(l.p, l.n, &l.matrix).map(drop),
+    },
+    Call {
+        name: "write",
+        takes: &[P, N, Matrix, Candidates, Allowance],
+        made: |l| write(l.p, l.n, &l.matrix, &l.candidates, l.allowance).map(drop),
     },
 ];
 
@@ -102,7 +110,7 @@ fn list(l: &mut Lent, part: Part) -> &mut Vec<u8> {
         Row => &mut l.row,
         Candidates => &mut l.candidates,
         Polynomial => &mut l.polynomial,
-        P | A | N => panic!("{part:?} is a number"),
+        P | A | N | Allowance => panic!("{part:?} is a number"),
     }
 }
 
@@ -142,6 +150,9 @@ fn faults() -> Vec<Fault> {
     for a in [3, 4, 255, 256, 258, u32::MAX] {
         faults.push(fault(11, A, move |l| l.a = a));
     }
+    for allowance in [16_384, 16_385, 1 << 15, 1 << 16, (1 << 31) + 9, u32::MAX] {
+        faults.push(fault(9, Allowance, move |l| l.allowance = allowance));
+    }
     faults
 }
 
@@ -178,6 +189,7 @@ fn every_number_of_every_call() {
         ("stand", &[1, 2, 3, 4, 5, 10]),
         ("chain", &[1, 2, 3, 4, 5, 10]),
         ("period", &[1, 2, 3, 5]),
+        ("write", &[1, 2, 3, 4, 5, 10, 9]),
     ];
     let expected = tests
         .iter()
@@ -212,6 +224,7 @@ fn of_two_faults_in_one_list_the_length() {
     assert_eq!(order(3, 2, &m, &[9]), Err(Refusal::Rows));
     assert_eq!(stand(3, 2, &m, &[9; 3], 9), Err(Refusal::Rows));
     assert_eq!(chain(3, 2, &m, &[9; 258]), Err(Refusal::Rows));
+    assert_eq!(write(3, 2, &m, &[9; 3], 9), Err(Refusal::Rows));
     let found = image(3, 2, &m, &[1, 0], &[9; 66]);
     assert_eq!(found, Err(Refusal::Polynomial));
 }
@@ -238,7 +251,7 @@ fn bad_entry(part: Part, at: usize, found: u8) -> Refusal {
             found,
             p,
         },
-        P | A | N => panic!("{part:?} is a number"),
+        P | A | N | Allowance => panic!("{part:?} is a number"),
     }
 }
 
@@ -265,6 +278,8 @@ fn where_the_last_bad_entry_can_be() {
     candidates[MOST_CANDIDATES * LARGEST_N - 1] = 2;
     let place = |refusal: Refusal| (refusal.number(), refusal.row_and_column());
     let found = chain(2, LARGEST_N, &matrix, &candidates).unwrap_err();
+    assert_eq!(place(found), (10, Some((128, 64))));
+    let found = write(2, LARGEST_N, &matrix, &candidates, 0).unwrap_err();
     assert_eq!(place(found), (10, Some((128, 64))));
     matrix[LARGEST_N * LARGEST_N - 1] = 2;
     let found = stand(2, LARGEST_N, &matrix, &candidates, 0).unwrap_err();
@@ -294,9 +309,11 @@ fn bounds() {
         if count <= MOST_CANDIDATES {
             assert_eq!(found.map(|s| s.taken()), Ok(count));
             assert!(chain(2, 3, &[0; 9], &rows).is_ok());
+            assert!(write(2, 3, &[0; 9], &rows, 0).is_ok());
         } else {
             assert_eq!(found, Err(Refusal::Rows));
             assert_eq!(chain(2, 3, &[0; 9], &rows), Err(Refusal::Rows));
+            assert_eq!(write(2, 3, &[0; 9], &rows, 0), Err(Refusal::Rows));
         }
     }
     for length in 0..70 {
@@ -330,6 +347,22 @@ fn bounds() {
     }
 }
 
+/// Each that a case can state, in its two numbers; the next ones are told.
+#[test]
+fn allowances() {
+    for allowance in 0..=MOST_STATED + 200 {
+        let found = write(2, 1, &[1], &[], allowance);
+        let expected = if allowance <= MOST_STATED {
+            let (high, low) = (allowance / 128, allowance % 128);
+            let stated = [255, b'A', high as u8, low as u8];
+            Ok([&[255, b'F', 2, 1], &stated[..], &[255, b'R', 1, 255, b'E']].concat())
+        } else {
+            Err(Refusal::Allowance { found: allowance })
+        };
+        assert_eq!(found, expected);
+    }
+}
+
 #[test]
 fn empty_slices() {
     assert_eq!(order(2, 1, &[], &[]), Err(Refusal::Matrix));
@@ -342,6 +375,8 @@ fn empty_slices() {
     assert_eq!(chain(2, 1, &[], &[]), Err(Refusal::Matrix));
     assert_eq!(period(2, 1, &[]), Err(Refusal::Matrix));
     assert_eq!(period(2, 0, &[]), Err(Refusal::Size));
+    assert_eq!(write(2, 1, &[], &[], 0), Err(Refusal::Matrix));
+    assert_eq!(write(2, 0, &[], &[], 0), Err(Refusal::Size));
     assert_eq!(sheet(&[]), Err(Refusal::File { place: 0 }));
 
     // No candidate is a list like others.
@@ -412,6 +447,11 @@ fn what_an_error_says() {
             "the scalar is 1000",
         ),
         (
+            Refusal::Allowance { found: 16_384 },
+            9,
+            "the allowance is 16384",
+        ),
+        (
             Refusal::File { place: 10 },
             8,
             "the file stops being a case at offset 10",
@@ -428,6 +468,10 @@ fn what_an_error_says() {
         assert!(!text.contains('\n') && !text.contains("  "), "{text}");
         if refusal.row_and_column().is_some() {
             let allowed = "with p = 7 it may be 0 to 6; take it modulo p";
+            assert_eq!((says, advice), (wrong, allowed));
+        }
+        if number == 9 {
+            let allowed = "a case file can state 0 to 16383; 8192 pays for every list";
             assert_eq!((says, advice), (wrong, allowed));
         }
     }

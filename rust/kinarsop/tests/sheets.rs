@@ -1,5 +1,6 @@
-//! Every sample case gives the sheet that is stored beside it.
-use kinarsop::{sheet, Refusal, LONGEST_CASE};
+//! Every sample case gives the sheet that is stored beside it, and is written again.
+use independent::grammar;
+use kinarsop::{sheet, write, Refusal, LONGEST_CASE};
 use std::fs;
 
 #[test]
@@ -28,6 +29,40 @@ fn sample_cases() {
         }
     }
     assert!(sheets != 0 && refused != 0);
+}
+
+/// The file of the values that a case file has.
+fn rewritten(file: &[u8]) -> Option<Vec<u8>> {
+    let wide: Vec<u64> = file.iter().map(|&x| x.into()).collect();
+    let narrow = |list: Vec<u64>| -> Vec<u8> { list.iter().map(|&x| x as u8).collect() };
+    let case = grammar::values(&wide)?;
+    let (p, n, allowance) = (case.p as u32, case.n as usize, case.allowance as u32);
+    let (matrix, candidates) = (narrow(case.matrix), narrow(case.candidates));
+    let written = write(p, n, &matrix, &candidates, allowance);
+    Some(written.expect("the values of a case are not refused"))
+}
+
+/// A case that states its allowance is written as it was; of any other the sheet is the same.
+#[test]
+fn sample_cases_are_written_again() {
+    let folder = concat!(env!("CARGO_MANIFEST_DIR"), "/../../cases");
+    let (mut stating, mut others) = (0, 0);
+    for entry in fs::read_dir(folder).expect("the samples are there") {
+        let path = entry.expect("a sample").path();
+        let file = fs::read(&path).expect("a file");
+        let Some(written) = rewritten(&file) else {
+            continue;
+        };
+        if file[5] == b'A' {
+            assert_eq!(written, file, "{path:?}");
+            stating += 1;
+        } else {
+            assert_eq!(written.len(), file.len() + 4, "{path:?}");
+            assert_eq!(sheet(&written), sheet(&file), "{path:?}");
+            others += 1;
+        }
+    }
+    assert!(stating != 0 && others != 0);
 }
 
 #[test]

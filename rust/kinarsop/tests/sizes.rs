@@ -1,5 +1,6 @@
 //! The longest of everything, slices that share bytes, and calls from several threads.
-use kinarsop::{chain, image, inverse, order, period, sheet, stand, Stand, FULL_ALLOWANCE};
+use kinarsop::{chain, image, inverse, order, period, sheet, stand, write, Stand};
+use kinarsop::{FULL_ALLOWANCE, LONGEST_CASE, MOST_STATED};
 use std::thread;
 
 const N: usize = 64;
@@ -136,6 +137,25 @@ fn long_periods() {
     assert_eq!(period(2, 17, &register(17, &[0, 3])), Ok(None));
 }
 
+/// The longest case: each row of it is another.
+#[test]
+fn the_longest_case_is_written() {
+    let row = |i: usize| (0..N).map(move |j| ((7 * i + j) % 251) as u8);
+    let matrix: Vec<u8> = (0..N).flat_map(row).collect();
+    let candidates: Vec<u8> = (N..N + 128).flat_map(row).collect();
+    let file = write(251, N, &matrix, &candidates, MOST_STATED).unwrap();
+    assert_eq!(file.len(), LONGEST_CASE);
+    let (front, behind) = file.split_at(8);
+    assert_eq!(front, [255, b'F', 251, 64, 255, b'A', 127, 127]);
+    let (records, end) = behind.split_at((N + 128) * (N + 2));
+    assert_eq!(end, [255, b'E']);
+    for (i, record) in records.chunks(N + 2).enumerate() {
+        let letter = if i < N { b'R' } else { b'C' };
+        assert_eq!(record[..2], [255, letter]);
+        assert!(record[2..].iter().copied().eq(row(i)), "{i}");
+    }
+}
+
 /// Slices lent by `&` may share bytes; the answers are those of copies.
 #[test]
 fn slices_that_share_bytes() {
@@ -157,6 +177,7 @@ fn slices_that_share_bytes() {
         let copy = rows.to_vec();
         assert_eq!(stand(3, 2, matrix, rows, 9), stand(3, 2, matrix, &copy, 9));
         assert_eq!(chain(3, 2, matrix, rows), chain(3, 2, matrix, &copy));
+        assert_eq!(write(3, 2, matrix, rows, 9), write(3, 2, matrix, &copy, 9));
     }
     let all = round();
     assert_eq!(order(251, N, &all, &all[..N]), Ok(round_polynomial()));
@@ -180,6 +201,8 @@ fn several_threads() {
                 assert_eq!(found.minimal_polynomial(), Some(&round_polynomial()[..]));
                 let found = chain(251, N, &identity(), &candidates).unwrap();
                 assert_eq!(found.product, power_polynomial());
+                let case = write(251, N, &identity(), &candidates, 0).unwrap();
+                assert_eq!(case.len(), LONGEST_CASE);
             }
         };
         let thread = thread::Builder::new().stack_size(256 << 10);
