@@ -13,7 +13,6 @@ use lib.ListN.{length, take}
 use Rattle.meaning.specs.Bytes.{write, padded}
 use Rattle.meaning.specs.Bounds.{matrixRoom, candidateRoom}
 use Rattle.meaning.specs.Case.{Case, IsCase, allowanceOf, matrixBytes, candidateBytes}
-use Rattle.meaning.specs.Calls.{given}
 use Rattle.meaning.specs.Writing.{WriteCall}
 use Rattle.meaning.proofs.Case.{flatten-length, case-sound}
 use Rattle.meaning.proofs.CaseBytes.{case-unique}

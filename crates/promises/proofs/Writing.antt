@@ -9,7 +9,7 @@
 --   written-kept       "bytes after it keep their content"
 --   written-differs    two inputs that are not refused and give the same bytes are the same
 -- Assumes nothing.
-use mathlib.Core.Path.{_≡_, refl, sym, ap, ap₂, _∙_}
+use mathlib.Core.Path.{_≡_, refl, sym, ap, _∙_}
 use mathlib.Core.List.{List}
 use mathlib.Core.Option.{some}
 use Prim.Native.Nat.{ℕ, _+_, _*_, _/_, _<_, _≤_}
@@ -21,7 +21,7 @@ use Rattle.meaning.specs.Bounds.{mostAllowance, Sound, SoundRows}
 use Rattle.meaning.specs.Refusal.{alone}
 use Rattle.meaning.specs.Case.{Case, IsCase, caseBytes, allowanceOf, matrixBytes, candidateBytes}
 use Rattle.meaning.specs.Calls.{Answer, refused, given}
-use Rattle.meaning.specs.Writing.{halvesOf, caseOf, caseWritten, writeRefusal, WriteCall}
+use Rattle.meaning.specs.Writing.{halvesOf, caseOf, caseWritten, WriteCall}
 use Rattle.meaning.proofs.Called.{called-given}
 use Rattle.meaning.proofs.Case.{case-sound, case-sound-rows}
 use Rattle.meaning.proofs.Writing.{write-sound, sound-write, over-write, short-write, written-case, written-length, written-only, caseOf-again}
