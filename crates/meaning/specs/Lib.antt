@@ -14,3 +14,4 @@ pub mod Ascii
 pub mod Line
 pub mod Sheet
 pub mod Print
+pub mod Design
