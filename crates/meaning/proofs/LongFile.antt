@@ -1,4 +1,5 @@
 -- A file that is longer than any case is judged by its front.
+--   begins-short  what begins a case is no longer than the longest
 --   file-front    the sheet of a file's first bytes is the file's, where there are more of them than any case has: the program need not read on
 -- Assumes nothing.
 use mathlib.Core.Path.{_≡_, sym, subst}
@@ -13,7 +14,7 @@ use Rattle.meaning.specs.Sheet.{IsSheet}
 use Rattle.meaning.specs.Sheet.IsSheet.{sheet, refused}
 use Rattle.meaning.proofs.CaseBytes.{case-longest}
 
-begins-short : (s : List ℕ) → Begins s → length s ≤ longestCase
+pub begins-short : (s : List ℕ) → Begins s → length s ≤ longestCase
 begins-short s b = omega (arith, case-longest (b .is), length-append s (b .rest))
 
 module _ (j : ℕ) (h : longestCase < j) (s : List ℕ) (l : j < length s) where

@@ -1,5 +1,6 @@
 -- Bytes written to the front of a buffer, with zeros behind them, or one after another.
 --   write-covers    a buffer that was written to is as long as what was written, at least
+--   write-size      and as long as before, where there was room
 --   front-write     a buffer whose first n bytes are new
 --   written-front   the front of a row that was written
 --   coefficient-bytes   the front of bytes below p, as the bytes of their polynomial's coefficients
@@ -15,7 +16,7 @@ use Prim.Native.Nat.{ℕ, zero, suc, _+_, _<_, _≤_}
 use native.Mathlib.Nat.{sub-zero, suc-sub-suc}
 use native.Mathlib.Numerals.{add-one}
 use native.Mathlib.Omega.{arith}
-use lib.ListN.{length, getD, set, take, drop, replicate, length-append}
+use lib.ListN.{length, getD, set, take, drop, replicate, length-append, length-drop}
 use lib.Seq.{take-append-le, take-at, take-length, paste, paste-suc}
 use Rattle.algebra.specs.Row.{S}
 use Rattle.algebra.specs.Poly.{coef}
@@ -25,6 +26,10 @@ use Rattle.meaning.proofs.Bytes.{bytes-length, bytes-take, polyOf-coef,
 pub write-covers : (new old : List ℕ) → length new ≤ length (write new old)
 unfolding write
 write-covers new old = omega (arith, length-append new (drop (length new) old))
+
+pub write-size : (new old : List ℕ) → length new ≤ length old → length (write new old) ≡ length old
+unfolding write
+write-size new old h = length-append new (drop (length new) old) ∙ (omega (arith, length-drop (length new) old))
 
 pub front-write : {n : ℕ} {part new : List ℕ} (old : List ℕ) → part ≡ new → length new ≡ n → part ++ drop n old ≡ write new old
 unfolding write

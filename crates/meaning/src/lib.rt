@@ -21,8 +21,14 @@ pub const CANDIDATE_ROOM: usize = MOST_CANDIDATES * WIDEST;
 // The bytes of the stage record at the largest n.
 pub const STAGE_RECORD: usize = 2 * WIDEST;
 
+// The first byte of each record of a case file.
+pub const MARK: u8 = 255;
+
 // The base to which a case file has the two halves of its allowance.
 pub const RADIX: u32 = 128;
 
 // The largest allowance that the two halves hold.
 pub const MOST_ALLOWANCE: u32 = RADIX * RADIX - 1;
+
+// The longest case has so many bytes.
+pub const LONGEST_CASE: usize = 12682;

@@ -23,7 +23,7 @@ use Rattle.scan.proofs.Run.{Alive}
 use Rattle.scan.proofs.Place.{over-case, case-over, scans-start, scans-turn, place-dead, place-end, scan-to}
 
 -- a state is Dead or not, and Over or not
-dead-or : (q : State) → (q ≡ Dead) ⊎ Alive q
+pub dead-or : (q : State) → (q ≡ Dead) ⊎ Alive q
 dead-or Start = inr (λ e. let z : _≡_ {A = ℕ} 0 1 = cc in omega arith)
 dead-or Opening = inr (λ e. let z : _≡_ {A = ℕ} 0 1 = cc in omega arith)
 dead-or Modulus = inr (λ e. let z : _≡_ {A = ℕ} 0 1 = cc in omega arith)

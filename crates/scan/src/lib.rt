@@ -6,10 +6,8 @@ ghost use mathlib.Core.Path.{_≡_};
 ghost use Prim.Native.Nat.{_+_, _<_, _≤_};
 ghost use Rattle.scalar.specs.Scalar.{wordBound};
 ghost use Rattle.scan.specs.Machine.{stale, opened, sized, letter, entered, after, Scans, ScanIs};
+use meaning::MARK;
 use scalar::is_prime;
-
-// The first byte of each record.
-const MARK: u8 = 255;
 
 // 01's bounds in the widths that the scan works in: on n, on a half of the allowance, on the number of candidates.
 const MOST_ROWS: u8 = meaning::WIDEST as u8;
@@ -148,7 +146,7 @@ fn enter(h: Head, bound: u8, left: u8, b: u8) -> State
 }
 
 // The state behind one more byte.
-fn behind(q: State, b: u8) -> State
+pub fn behind(q: State, b: u8) -> State
     ensures { λ r. ⌜ r ≡ after q b ⌝ }
 {
     match q {

@@ -2,6 +2,7 @@
 // The language has no exit status: what fails is said on standard error, and then nothing or not all is written.
 use libc::STDIN_FILENO;
 use libc::STDOUT_FILENO;
+use meaning::LONGEST_CASE;
 use sheet::Sheeted;
 
 // The buffer has room for every sheet, so the call is not refused.
@@ -17,9 +18,6 @@ fn show(file: &[u8]) {
         Sheeted::Refused(_) => {}
     }
 }
-
-// The longest case has so many bytes.
-const LONGEST_CASE: usize = 12682;
 
 // One byte more is read, so that a byte behind the longest case is seen; whatever follows changes nothing (`file-front` of the crate `sheet`).
 fn main() {

@@ -6,12 +6,10 @@ ghost use Rattle.meaning.specs.Bytes.{byteRows};
 ghost use Rattle.meaning.specs.Writing.{WriteCall};
 ghost use Rattle.writer.specs.Answers.{writtenOf};
 ghost use Rattle.writer.specs.Laying.{LaidAt, marked, WholeRows};
+use meaning::MARK;
 use meaning::RADIX;
 use reasons::Checked;
 use reasons::Reason;
-
-// The first byte of each record.
-const MARK: u8 = 255;
 
 // The length of the case.
 pub enum Written {
