@@ -32,18 +32,20 @@ use Rattle.meaning.specs.Chain.{stageBytes}
 use Rattle.meaning.specs.Period.{longest}
 use Rattle.meaning.specs.Entry.{cellAt, firstBad, badCell}
 use Rattle.meaning.specs.Refusal.{alone, at, refuse, refuseAt, allBelow, isPrime, noPrime, noSize, noMatrix, noRows, noVector, noPolynomial}
-use Rattle.meaning.specs.Refusal.{badEntry, badCoefficient, badScalar, tooShort, first}
+use Rattle.meaning.specs.Refusal.{badEntry, badCoefficient, badScalar, noAllowance, tooShort, first}
 use Rattle.meaning.specs.Refusal.{inverseRefusal, orderRefusal, imageRefusal, standRefusal, chainRefusal, periodRefusal}
 use Rattle.meaning.specs.Calls.{Answer, refused, given}
+use Rattle.meaning.specs.Case.{recordBytes, flat, records, caseBytes}
+use Rattle.meaning.specs.Writing.{caseOf, caseWritten, writeRefusal}
 use Rattle.promises.specs.Run.{takenOf, witnessOf, ordersOf, standOrders, standTaken, standPoly, standWitness, standOf, chainOf}
 use Rattle.promises.specs.Run.{same, sameRows, firstPower, nextPower, periodFrom, periodOf, inverseOf}
-use Rattle.promises.specs.Wrong.{Reply, inverse-reply, order-reply, image-reply, stand-reply, chain-reply, period-reply}
+use Rattle.promises.specs.Wrong.{Reply, inverse-reply, order-reply, image-reply, stand-reply, chain-reply, period-reply, write-reply}
 use Rattle.promises.specs.Wrong.{Permitted, ShutOut, Trial, AllShut}
-use Rattle.promises.specs.Wrong.{wrongInverses, wrongOrders, wrongImages, wrongStands, wrongChains, wrongPeriods, wrongAnswers}
+use Rattle.promises.specs.Wrong.{wrongInverses, wrongOrders, wrongImages, wrongStands, wrongChains, wrongPeriods, wrongWrites, wrongAnswers}
 use Rattle.promises.proofs.Found.{sameRows-false}
 use Rattle.meaning.proofs.Called.{called-exists}
-use Rattle.promises.proofs.Calls.{inverse-exists, order-exists, image-exists, stand-exists, chain-exists, period-exists}
-use Rattle.promises.proofs.Calls.{inverse-unique, order-unique, image-unique, stand-unique, chain-unique, period-unique}
+use Rattle.promises.proofs.Calls.{inverse-exists, order-exists, image-exists, stand-exists, chain-exists, period-exists, write-exists}
+use Rattle.promises.proofs.Calls.{inverse-unique, order-unique, image-unique, stand-unique, chain-unique, period-unique, write-unique}
 
 corrected : Reply → Reply
 corrected (inverse-reply p a x) = inverse-reply p a (inverse-exists p a .0)
@@ -56,6 +58,7 @@ corrected (chain-reply p n m cs product stages x) =
     let c = chain-exists p n m cs (product, stages) in
     chain-reply p n m cs product stages (c .0, c .1 .0, c .1 .1)
 corrected (period-reply p n m x) = period-reply p n m (period-exists p n m .0)
+corrected (write-reply p n m cs a out x) = let c = write-exists p n m cs a out in write-reply p n m cs a out (c .0, c .1)
 
 corrected-permitted : (r : Reply) → Permitted (corrected r)
 unfolding corrected
@@ -65,6 +68,7 @@ corrected-permitted (image-reply p n m v f out x) = image-exists p n m v f out .
 corrected-permitted (stand-reply p n m cs a poly image x) = stand-exists p n m cs a (poly, image) .2
 corrected-permitted (chain-reply p n m cs product stages x) = chain-exists p n m cs (product, stages) .2
 corrected-permitted (period-reply p n m x) = period-exists p n m .1
+corrected-permitted (write-reply p n m cs a out x) = write-exists p n m cs a out .2
 
 corrected-only : (r : Reply) → Permitted r → r ≡ corrected r
 unfolding corrected
@@ -82,6 +86,9 @@ corrected-only (chain-reply p n m cs product stages x) h =
     let u = chain-unique h (chain-exists p n m cs (product, stages) .2) in
     ap₂ (λ y b. chain-reply p n m cs product stages (y, b .0, b .1)) (u .0) (u .1)
 corrected-only (period-reply p n m x) h = ap (period-reply p n m) (period-unique p n m h (period-exists p n m .1))
+corrected-only (write-reply p n m cs a out x) h =
+    let u = write-unique p n m cs a h (write-exists p n m cs a out .2) in
+    ap₂ (λ y b. write-reply p n m cs a out (y, b)) (u .0) (u .1)
 
 -- replies with other numbers are other replies; that the numbers tell all apart need not be known
 answerNumbers : {A : Type 0} → (A → List ℕ) → Answer A → List ℕ
@@ -107,6 +114,7 @@ replyNumbers (image-reply p n m v f out x) = answerNumbers (λ r. []) (x .0) ∷
 replyNumbers (stand-reply p n m cs a poly image x) = answerNumbers outcomeNumbers (x .0) ∷ x .1 ∷ x .2 ∷ []
 replyNumbers (chain-reply p n m cs product stages x) = answerNumbers (λ r. r ∷ []) (x .0) ∷ x .1 ∷ x .2 ∷ []
 replyNumbers (period-reply p n m x) = answerNumbers optionNumbers x ∷ []
+replyNumbers (write-reply p n m cs a out x) = answerNumbers (λ r. r ∷ []) (x .0) ∷ x .1 ∷ []
 
 sameReply : Reply → Reply → Bool
 sameReply r s = sameRows (replyNumbers r) (replyNumbers s)
@@ -131,13 +139,14 @@ trials-shut (t ∷ ts) q =
 
 trials-run : map runTrial wrongAnswers ≡ map claimTrial wrongAnswers
 unfolding runTrial claimTrial sameReply replyNumbers answerNumbers standingNumber outcomeNumbers optionNumbers corrected called-exists inverse-exists
-    order-exists image-exists stand-exists chain-exists period-exists cellAt firstBad badCell refuse refuseAt isPrime allBelow noPrime noSize noMatrix
-    noRows noVector noPolynomial badEntry badCoefficient badScalar tooShort first inverseRefusal orderRefusal imageRefusal standRefusal chainRefusal
-    periodRefusal fp inv-or-𝟘 inv-or-𝟘-steps 𝟘 𝟙 _⊕_ _⊗_ neg isZero unit 0ᵥ _+ᵥ_ _·ᵥ_ comb act coef poly _⊞_ _⊡_ _⊠_ size head monic divide-turn
-    divide gcd-steps gcd lcm lcms lead deeper clear reduce units product long clip tail clipKept newKept spin spinOver orderOf keep chain tab row
-    polyOf rowAt byteRows rows times bytes e write padded image stageBytes sum longest takenOf witnessOf standingOf ordersOf standOrders standTaken
-    standPoly standWitness standOf chainOf same sameRows firstPower nextPower periodFrom periodOf inverseOf wrongInverses wrongOrders wrongImages
-    wrongStands wrongChains wrongPeriods wrongAnswers
+    order-exists image-exists stand-exists chain-exists period-exists write-exists cellAt firstBad badCell refuse refuseAt isPrime allBelow noPrime
+    noSize noMatrix noRows noVector noPolynomial badEntry badCoefficient badScalar noAllowance tooShort first inverseRefusal orderRefusal imageRefusal
+    standRefusal chainRefusal periodRefusal writeRefusal recordBytes flat records caseBytes caseOf caseWritten fp inv-or-𝟘 inv-or-𝟘-steps 𝟘 𝟙 _⊕_ _⊗_
+    neg isZero unit 0ᵥ _+ᵥ_ _·ᵥ_ comb act coef poly _⊞_ _⊡_ _⊠_ size head monic divide-turn divide gcd-steps gcd lcm lcms lead deeper clear reduce
+    units product long clip tail clipKept newKept spin spinOver orderOf keep chain tab row polyOf rowAt byteRows rows times bytes e write padded image
+    stageBytes sum longest takenOf witnessOf standingOf ordersOf standOrders standTaken standPoly standWitness standOf chainOf same sameRows
+    firstPower nextPower periodFrom periodOf inverseOf wrongInverses wrongOrders wrongImages wrongStands wrongChains wrongPeriods wrongWrites
+    wrongAnswers
 trials-run = refl
 
 pub wrong-answers : AllShut wrongAnswers

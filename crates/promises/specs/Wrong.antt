@@ -1,5 +1,5 @@
--- Wrong answers that the contracts shut out (01, "Shortcuts that look right" and "How tight each contract is to be"; 02, #102 and #104), as one table:
--- for each input the right answer, and wrong ones, each in words. Where the words name one byte or one number, all else in that answer is right.
+-- Wrong answers that the contracts shut out (01, "Shortcuts that look right" and "How tight each contract is to be"; 02, #101, #102 and #104), as one
+-- table: for each input the right answer, and wrong ones, each in words. Where the words name one byte or one number, all else in it is right.
 --   Reply          a call with its input and what its lent buffers hold before; then, as one tuple, what is answered and what they hold afterwards
 --   Permitted r    the contract of the call permits that reply
 --   ShutOut ws     it permits none of the replies ws
@@ -8,6 +8,7 @@
 --   tried call r ws   the trial of a call with its input: the right answer r, and the wrong answers ws
 --   sevens k       k lent bytes, 7 each, so that a byte that is left as it was is seen
 --   proving d t k, lacking d t k w   a stand's outcome: proved, or short with the witness w; degree d, taken t, spent k
+--   everyNumber    the numbers 0 to 13, those of all refusals among them
 --   numbered s ks  the wrong answers "refused" with each of the numbers ks, alone, for the reason s
 --   numberedOne s b ks, numberedTwo s b c ks   the same of a call with one buffer or two, which it leaves as they were
 --   numberedAt s r c ks, numberedAtOne s b r c ks, numberedAtTwo s b d r c ks   the same with row r and column c beside each number
@@ -16,8 +17,11 @@
 --   outOfTurn k ks js   wrong answers where the number k is due alone: of the later tests ks, of which js tell an entry, here that in row 1, column 1
 --   orderOn g v, imageOn g v f, standOn g, chainOn g, periodOn g   a call on the matrix, or the whole input, of the figure g;
 --                  each buffer has one byte more than 01 asks
---   orderLeft, imageLeft, standLeft, chainLeft   a call with its answer, the buffers left as they were
---   wrongInverses, wrongOrders, wrongImages, wrongStands, wrongChains, wrongPeriods, wrongAnswers   the table, call by call
+--   writeOn a      the writer on the machine [2] modulo 3 with the candidate (1) and the allowance a; the buffer has one byte more than the case
+--   caseWith high low   the records of that case, with these halves in its A record
+--   laid k rs rest   the length k is told, and the buffer holds the records rs and behind them the bytes `rest`
+--   orderLeft, imageLeft, standLeft, chainLeft, writeLeft   a call with its answer, the buffers left as they were
+--   wrongInverses, wrongOrders, wrongImages, wrongStands, wrongChains, wrongPeriods, wrongWrites, wrongAnswers   the table, call by call
 -- Assumes nothing.
 use mathlib.Core.List.{List, [], _∷_, _++_, map}
 use mathlib.Core.Option.{Option, none, some}
@@ -27,6 +31,8 @@ use lib.ListN.{replicate}
 use Rattle.meaning.specs.Stand.{proved, short, Outcome}
 use Rattle.meaning.specs.Refusal.{alone, at}
 use Rattle.meaning.specs.Calls.{Answer, refused, given, InverseCall, OrderCall, ImageCall, StandCall, ChainCall, PeriodCall}
+use Rattle.meaning.specs.Case.{Record, field, allow, row, candidate, end, flat}
+use Rattle.meaning.specs.Writing.{WriteCall}
 use Rattle.promises.specs.Figures.{Figure, P1, P2, P3, P4, P5, P6, P7, P8, P9, P10, P11}
 
 pub data Reply : Type 0 where
@@ -36,6 +42,7 @@ pub data Reply : Type 0 where
   stand-reply : (p n : ℕ) (m cs : List ℕ) (a : ℕ) (poly image : List ℕ) → Answer Outcome × List ℕ × List ℕ → Reply
   chain-reply : (p n : ℕ) (m cs product stages : List ℕ) → Answer ℕ × List ℕ × List ℕ → Reply
   period-reply : (p n : ℕ) (m : List ℕ) → Answer (Option ℕ) → Reply
+  write-reply : (p n : ℕ) (m cs : List ℕ) (a : ℕ) (out : List ℕ) → Answer ℕ × List ℕ → Reply
 
 abbrev pub Permitted : Reply → Type 0
 Permitted (inverse-reply p a x) = InverseCall p a x
@@ -44,6 +51,7 @@ Permitted (image-reply p n m v f out x) = ImageCall p n m v f out (x .0) (x .1)
 Permitted (stand-reply p n m cs a poly image x) = StandCall p n m cs a (poly, image) (x .0) (x .1, x .2)
 Permitted (chain-reply p n m cs product stages x) = ChainCall p n m cs (product, stages) (x .0) (x .1, x .2)
 Permitted (period-reply p n m x) = PeriodCall p n m x
+Permitted (write-reply p n m cs a out x) = WriteCall p n m cs a out (x .0) (x .1)
 
 abbrev pub ShutOut : List (String × Reply) → Type 0
 ShutOut [] = Unit {0}
@@ -68,6 +76,9 @@ proving d t k = given (record { standing = proved; degree = d; taken = t; spent 
 
 abbrev pub lacking : ℕ → ℕ → ℕ → ℕ → Answer Outcome
 lacking d t k w = given (record { standing = short; degree = d; taken = t; spent = k; witness = w })
+
+abbrev pub everyNumber : List ℕ
+everyNumber = 0 ∷ 1 ∷ 2 ∷ 3 ∷ 4 ∷ 5 ∷ 6 ∷ 7 ∷ 8 ∷ 9 ∷ 10 ∷ 11 ∷ 12 ∷ 13 ∷ []
 
 abbrev pub numbered : {A : Type 0} → String → List ℕ → List (String × Answer A)
 numbered s ks = map (λ k. (s, refused (alone k))) ks
@@ -137,6 +148,15 @@ chainOn g = chain-reply (g .p) (g .n) (g .m) (g .cs) (sevens (g .n + 2)) (sevens
 abbrev pub periodOn : Figure → Answer (Option ℕ) → Reply
 periodOn g = period-reply (g .p) (g .n) (g .m)
 
+abbrev pub writeOn : ℕ → Answer ℕ × List ℕ → Reply
+writeOn a = write-reply 3 1 (2 ∷ []) (1 ∷ []) a (sevens 17)
+
+abbrev pub caseWith : ℕ → ℕ → List Record
+caseWith high low = field 3 1 ∷ allow high low ∷ row (2 ∷ []) ∷ candidate (1 ∷ []) ∷ end ∷ []
+
+abbrev pub laid : ℕ → List Record → List ℕ → Answer ℕ × List ℕ
+laid k rs rest = (given k, flat rs ++ rest)
+
 abbrev pub orderLeft : ℕ → ℕ → List ℕ → List ℕ → List ℕ → Answer ℕ → Reply
 orderLeft p n m v out x = order-reply p n m v out (x, out)
 
@@ -148,6 +168,9 @@ standLeft p n m cs poly image x = stand-reply p n m cs 9 poly image (x, poly, im
 
 abbrev pub chainLeft : ℕ → ℕ → List ℕ → List ℕ → List ℕ → List ℕ → Answer ℕ → Reply
 chainLeft p n m cs product stages x = chain-reply p n m cs product stages (x, product, stages)
+
+abbrev pub writeLeft : ℕ → ℕ → List ℕ → List ℕ → ℕ → List ℕ → Answer ℕ → Reply
+writeLeft p n m cs a out x = write-reply p n m cs a out (x, out)
 
 unfoldable pub wrongInverses : List Trial
 wrongInverses =
@@ -161,14 +184,14 @@ wrongInverses =
     ∷ ("not reduced modulo p", given (some 12))
     ∷ ("refused as too large", refused (at 11 0 1))
     ∷ ("refused as too large, in row 1", refused (at 11 1 1))
-    ∷ numbered "refused, and nothing is wrong" (0 ∷ 1 ∷ 2 ∷ 3 ∷ 4 ∷ 5 ∷ 6 ∷ 7 ∷ 8 ∷ 10 ∷ 11 ∷ []))
+    ∷ numbered "refused, and nothing is wrong" everyNumber)
     -- 0 has no inverse, and that is a result
     ∷ tried (inverse-reply 5 0) (given none)
     (("0 for 0", given (some 0))
     ∷ ("1 for 0", given (some 1))
     ∷ ("p for 0", given (some 5))
     ∷ ("0 refused as a bad scalar", refused (at 11 0 1))
-    ∷ numbered "0 refused as having no inverse" (0 ∷ 1 ∷ 2 ∷ 3 ∷ 4 ∷ 5 ∷ 6 ∷ 7 ∷ 8 ∷ 10 ∷ 11 ∷ []))
+    ∷ numbered "0 refused as having no inverse" everyNumber)
     ∷ tried (inverse-reply 2 0) (given none) (("0 for 0", given (some 0)) ∷ ("0 refused", refused (at 11 0 1)) ∷ [])
     ∷ tried (inverse-reply 251 0) (given none) (("0 for 0", given (some 0)) ∷ ("0 refused", refused (at 11 0 1)) ∷ [])
     -- 1 and p − 1 have one, also where they are the same; and the edges of p: 2 and 251 are taken; 253 is 11·23
@@ -189,7 +212,7 @@ wrongInverses =
     ∷ tried (inverse-reply 5 5) (refused (at 11 0 1))
     (("p taken for 0", given none)
     ∷ ("a matrix of one entry", refused (at 5 1 1))
-    ∷ (misplacedCoefficient 1 ++ numbered "another number" (0 ∷ 1 ∷ 2 ∷ 3 ∷ 4 ∷ 6 ∷ 7 ∷ 8 ∷ 10 ∷ [])))
+    ∷ (misplacedCoefficient 1 ++ numbered "another number" (0 ∷ 1 ∷ 2 ∷ 3 ∷ 4 ∷ 6 ∷ 7 ∷ 8 ∷ 9 ∷ 10 ∷ [])))
     ∷ tried (inverse-reply 5 6) (refused (at 11 0 1)) (("the scalar reduced first", given (some 1)) ∷ misplacedCoefficient 1)
     ∷ tried (inverse-reply 5 7) (refused (at 11 0 1)) (("the scalar reduced first", given (some 3)) ∷ ("the scalar for the column", refused (at 11 0 7)) ∷ [])
     ∷ tried (inverse-reply 5 256) (refused (at 11 0 1)) (("the scalar cut to a byte", given none) ∷ [])
@@ -215,7 +238,7 @@ wrongOrders =
     ∷ ("a kept row added and not taken away, so that no dependence is found", (given 3, 0 ∷ 0 ∷ 0 ∷ 7 ∷ []))
     ∷ ("the number of coefficients for the degree", (given 2, 2 ∷ 1 ∷ 0 ∷ 7 ∷ []))
     ∷ ("the degree one too low", (given 0, 2 ∷ 1 ∷ 0 ∷ 7 ∷ []))
-    ∷ (numberedOne "refused, and nothing is wrong" (sevens 4) (0 ∷ 1 ∷ 2 ∷ 3 ∷ 4 ∷ 5 ∷ 6 ∷ 7 ∷ 8 ∷ 10 ∷ 11 ∷ [])
+    ∷ (numberedOne "refused, and nothing is wrong" (sevens 4) everyNumber
     ++ numberedAtOne "refused for an entry, and nothing is wrong" (sevens 4) 1 1 (5 ∷ 10 ∷ [])))
     -- (1,1) has (x − 1)(x − 2)
     ∷ tried (orderOn P7 (1 ∷ 1 ∷ [])) (given 2, 2 ∷ 0 ∷ 1 ∷ 7 ∷ [])
@@ -269,7 +292,7 @@ wrongOrders =
     -- the first bad entry of the matrix, in reading order, rows and columns counted from 1
     ∷ tried (orderLeft 3 2 (0 ∷ 3 ∷ 0 ∷ 0 ∷ []) (0 ∷ 0 ∷ []) (sevens 3)) (refused (at 5 1 2))
     (("row and column swapped", refused (at 5 2 1))
-    ∷ (misplaced 5 1 2 ++ numberedAt "another number" 1 2 (0 ∷ 1 ∷ 2 ∷ 3 ∷ 4 ∷ 6 ∷ 7 ∷ 8 ∷ 10 ∷ 11 ∷ [])))
+    ∷ (misplaced 5 1 2 ++ numberedAt "another number" 1 2 (0 ∷ 1 ∷ 2 ∷ 3 ∷ 4 ∷ 6 ∷ 7 ∷ 8 ∷ 9 ∷ 10 ∷ 11 ∷ [])))
     ∷ tried (orderLeft 3 2 (0 ∷ 0 ∷ 3 ∷ 0 ∷ []) (0 ∷ 0 ∷ []) (sevens 3)) (refused (at 5 2 1))
     (("row and column swapped", refused (at 5 1 2)) ∷ ("the matrix taken for one row", refused (at 5 1 3)) ∷ misplaced 5 2 1)
     ∷ tried (orderLeft 3 3 (0 ∷ 0 ∷ 3 ∷ 9 ∷ 0 ∷ 0 ∷ 0 ∷ 4 ∷ 0 ∷ []) (0 ∷ 0 ∷ 0 ∷ []) (sevens 4)) (refused (at 5 1 3))
@@ -284,7 +307,7 @@ wrongOrders =
     ∷ tried (orderLeft 3 2 (0 ∷ 0 ∷ 0 ∷ 0 ∷ []) (0 ∷ 3 ∷ []) (sevens 3)) (refused (at 10 1 2))
     (("row and column swapped", refused (at 10 2 1))
     ∷ ("rows counted on from the matrix's", refused (at 10 3 2))
-    ∷ (misplacedRow 1 2 ++ numberedAt "another number" 1 2 (0 ∷ 1 ∷ 2 ∷ 3 ∷ 4 ∷ 6 ∷ 7 ∷ 8 ∷ [])))
+    ∷ (misplacedRow 1 2 ++ numberedAt "another number" 1 2 (0 ∷ 1 ∷ 2 ∷ 3 ∷ 4 ∷ 6 ∷ 7 ∷ 8 ∷ 9 ∷ [])))
     ∷ tried (orderLeft 3 4 (replicate 16 0) (0 ∷ 3 ∷ 0 ∷ 4 ∷ []) (sevens 5)) (refused (at 10 1 2))
     (("the last bad entry; or the largest", refused (at 10 1 4)) ∷ misplacedRow 1 2)
     ∷ tried (orderLeft 3 1 (0 ∷ []) (3 ∷ []) (sevens 2)) (refused (at 10 1 1)) (misplacedRow 1 1)
@@ -305,7 +328,7 @@ wrongOrders =
     ∷ tried (orderLeft 3 2 (9 ∷ 9 ∷ 9 ∷ 9 ∷ []) (9 ∷ 9 ∷ []) []) (refused (at 5 1 1))
     (("a later test's number, with its entry", refused (at 10 1 1)) ∷ numbered "a later test's number" (10 ∷ 6 ∷ []))
     ∷ tried (orderLeft 3 2 (0 ∷ 0 ∷ 0 ∷ 0 ∷ []) (0 ∷ 0 ∷ []) []) (refused (alone 6))
-    (numbered "another number" (0 ∷ 1 ∷ 2 ∷ 3 ∷ 4 ∷ 5 ∷ 7 ∷ 8 ∷ 10 ∷ 11 ∷ []) ++ numberedAt "a place where no entry is bad" 1 1 (5 ∷ 6 ∷ 10 ∷ []))
+    (numbered "another number" (0 ∷ 1 ∷ 2 ∷ 3 ∷ 4 ∷ 5 ∷ 7 ∷ 8 ∷ 9 ∷ 10 ∷ 11 ∷ []) ++ numberedAt "a place where no entry is bad" 1 1 (5 ∷ 6 ∷ 10 ∷ []))
     ∷ []
 
 unfoldable pub wrongImages : List Trial
@@ -319,7 +342,7 @@ wrongImages =
     ∷ ("the last entry not written", (given tt, 2 ∷ 7 ∷ 7 ∷ []))
     ∷ ("a byte beyond n changed", (given tt, 2 ∷ 0 ∷ 0 ∷ []))
     ∷ ("the bytes beyond n gone", (given tt, 2 ∷ 0 ∷ []))
-    ∷ (numberedOne "refused, and nothing is wrong" (sevens 3) (0 ∷ 1 ∷ 2 ∷ 3 ∷ 4 ∷ 5 ∷ 6 ∷ 7 ∷ 8 ∷ 10 ∷ 11 ∷ [])
+    ∷ (numberedOne "refused, and nothing is wrong" (sevens 3) everyNumber
     ++ (numberedAtOne "refused for an entry, and nothing is wrong" (sevens 3) 1 1 (5 ∷ 10 ∷ [])
     ++ numberedAtOne "refused for a coefficient, and nothing is wrong" (sevens 3) 0 1 (11 ∷ []))))
     -- "Columns for rows"
@@ -360,7 +383,7 @@ wrongImages =
     -- the first bad entry of the matrix, in reading order, rows and columns counted from 1
     ∷ tried (imageLeft 3 2 (0 ∷ 3 ∷ 0 ∷ 0 ∷ []) (0 ∷ 0 ∷ []) (0 ∷ []) (sevens 2)) (refused (at 5 1 2))
     (("row and column swapped", refused (at 5 2 1))
-    ∷ (misplaced 5 1 2 ++ numberedAt "another number" 1 2 (0 ∷ 1 ∷ 2 ∷ 3 ∷ 4 ∷ 6 ∷ 7 ∷ 8 ∷ 10 ∷ 11 ∷ [])))
+    ∷ (misplaced 5 1 2 ++ numberedAt "another number" 1 2 (0 ∷ 1 ∷ 2 ∷ 3 ∷ 4 ∷ 6 ∷ 7 ∷ 8 ∷ 9 ∷ 10 ∷ 11 ∷ [])))
     ∷ tried (imageLeft 3 2 (0 ∷ 0 ∷ 3 ∷ 0 ∷ []) (0 ∷ 0 ∷ []) (0 ∷ []) (sevens 2)) (refused (at 5 2 1))
     (("row and column swapped", refused (at 5 1 2)) ∷ ("the matrix taken for one row", refused (at 5 1 3)) ∷ misplaced 5 2 1)
     ∷ tried (imageLeft 3 3 (0 ∷ 0 ∷ 3 ∷ 9 ∷ 0 ∷ 0 ∷ 0 ∷ 4 ∷ 0 ∷ []) (0 ∷ 0 ∷ 0 ∷ []) (0 ∷ []) (sevens 3)) (refused (at 5 1 3))
@@ -373,7 +396,7 @@ wrongImages =
     ∷ tried (imageLeft 3 2 (0 ∷ 0 ∷ 0 ∷ 0 ∷ []) (0 ∷ 3 ∷ []) (0 ∷ []) (sevens 2)) (refused (at 10 1 2))
     (("row and column swapped", refused (at 10 2 1))
     ∷ ("rows counted on from the matrix's", refused (at 10 3 2))
-    ∷ (misplacedRow 1 2 ++ numberedAt "another number" 1 2 (0 ∷ 1 ∷ 2 ∷ 3 ∷ 4 ∷ 6 ∷ 7 ∷ 8 ∷ [])))
+    ∷ (misplacedRow 1 2 ++ numberedAt "another number" 1 2 (0 ∷ 1 ∷ 2 ∷ 3 ∷ 4 ∷ 6 ∷ 7 ∷ 8 ∷ 9 ∷ [])))
     ∷ tried (imageLeft 3 4 (replicate 16 0) (0 ∷ 3 ∷ 0 ∷ 4 ∷ []) (0 ∷ []) (sevens 4)) (refused (at 10 1 2))
     (("the last bad entry; or the largest", refused (at 10 1 4)) ∷ misplacedRow 1 2)
     -- of the coefficients, which are row 0; the lowest is in column 1
@@ -383,7 +406,7 @@ wrongImages =
     ∷ ("the last bad coefficient, counted from the top", refused (at 11 0 1))
     ∷ ("the coefficients cut into rows of n", refused (at 11 2 1))
     ∷ ("the coefficients cut into rows of n, the first of them row 0", refused (at 11 1 1))
-    ∷ (misplacedCoefficient 3 ++ numberedAt "another number" 0 3 (0 ∷ 1 ∷ 2 ∷ 3 ∷ 4 ∷ 6 ∷ 7 ∷ 8 ∷ [])))
+    ∷ (misplacedCoefficient 3 ++ numberedAt "another number" 0 3 (0 ∷ 1 ∷ 2 ∷ 3 ∷ 4 ∷ 6 ∷ 7 ∷ 8 ∷ 9 ∷ [])))
     ∷ tried (imageLeft 3 2 (0 ∷ 0 ∷ 0 ∷ 0 ∷ []) (0 ∷ 0 ∷ []) (3 ∷ 0 ∷ 0 ∷ []) (sevens 2)) (refused (at 11 0 1))
     (("counted from the top", refused (at 11 0 3)) ∷ misplacedCoefficient 1)
     ∷ tried (imageLeft 3 2 (0 ∷ 0 ∷ 0 ∷ 0 ∷ []) (0 ∷ 0 ∷ []) (replicate 64 0 ++ (3 ∷ [])) (sevens 2)) (refused (at 11 0 65))
@@ -420,7 +443,8 @@ wrongImages =
     ∷ ("a later test's number, with its coefficient", refused (at 11 0 1))
     ∷ numbered "a later test's number" (10 ∷ 11 ∷ 6 ∷ []))
     ∷ tried (imageLeft 3 2 (0 ∷ 0 ∷ 0 ∷ 0 ∷ []) (0 ∷ 0 ∷ []) (0 ∷ []) []) (refused (alone 6))
-    (numbered "another number" (0 ∷ 1 ∷ 2 ∷ 3 ∷ 4 ∷ 5 ∷ 7 ∷ 8 ∷ 10 ∷ 11 ∷ []) ++ numberedAt "a place where no entry is bad" 1 1 (5 ∷ 6 ∷ 10 ∷ 11 ∷ []))
+    (numbered "another number" (0 ∷ 1 ∷ 2 ∷ 3 ∷ 4 ∷ 5 ∷ 7 ∷ 8 ∷ 9 ∷ 10 ∷ 11 ∷ [])
+    ++ numberedAt "a place where no entry is bad" 1 1 (5 ∷ 6 ∷ 10 ∷ 11 ∷ []))
     ∷ []
 
 unfoldable pub wrongStands : List Trial
@@ -443,7 +467,7 @@ wrongStands =
     )
     ∷ ("the minimal polynomial called short", (lacking 2 1 2 1, 1 ∷ 0 ∷ 1 ∷ 7 ∷ [], 0 ∷ 0 ∷ 7 ∷ []))
     ∷ ("the minimal polynomial called short, without a witness", (lacking 2 1 2 0, 1 ∷ 0 ∷ 1 ∷ 7 ∷ [], 0 ∷ 0 ∷ 7 ∷ []))
-    ∷ (numberedTwo "refused, and nothing is wrong" (sevens 4) (sevens 3) (0 ∷ 1 ∷ 2 ∷ 3 ∷ 4 ∷ 5 ∷ 6 ∷ 7 ∷ 8 ∷ 10 ∷ 11 ∷ [])
+    ∷ (numberedTwo "refused, and nothing is wrong" (sevens 4) (sevens 3) everyNumber
     ++ numberedAtTwo "refused for an entry, and nothing is wrong" (sevens 4) (sevens 3) 1 1 (5 ∷ 10 ∷ [])))
     ∷ tried (standOn P3) (proving 1 1 1, 0 ∷ 1 ∷ 7 ∷ [], 0 ∷ 7 ∷ []) (("always short, 1", (lacking 0 0 0 1, 1 ∷ 0 ∷ 7 ∷ [], 1 ∷ 7 ∷ [])) ∷ [])
     -- no rows: F is 1
@@ -550,7 +574,8 @@ wrongStands =
     ∷ tried (stand-reply 3 2 (0 ∷ 1 ∷ 2 ∷ 0 ∷ []) (1 ∷ 0 ∷ []) 256 (sevens 4) (sevens 3)) (proving 2 1 2, 1 ∷ 0 ∷ 1 ∷ 7 ∷ [], 0 ∷ 0 ∷ 7 ∷ [])
     (("the allowance cut to a byte", (lacking 0 0 0 1, 1 ∷ 0 ∷ 0 ∷ 7 ∷ [], 1 ∷ 0 ∷ 7 ∷ [])) ∷ [])
     ∷ tried (stand-reply 3 2 (0 ∷ 1 ∷ 2 ∷ 0 ∷ []) (1 ∷ 0 ∷ []) 65536 (sevens 4) (sevens 3)) (proving 2 1 2, 1 ∷ 0 ∷ 1 ∷ 7 ∷ [], 0 ∷ 0 ∷ 7 ∷ [])
-    (("the allowance cut to 16 bits", (lacking 0 0 0 1, 1 ∷ 0 ∷ 0 ∷ 7 ∷ [], 1 ∷ 0 ∷ 7 ∷ [])) ∷ [])
+    (("the allowance cut to 16 bits", (lacking 0 0 0 1, 1 ∷ 0 ∷ 0 ∷ 7 ∷ [], 1 ∷ 0 ∷ 7 ∷ []))
+    ∷ numberedTwo "refused, as the writer refuses it" (sevens 4) (sevens 3) (9 ∷ []))
     ∷ tried (stand-reply 3 2 (0 ∷ 1 ∷ 2 ∷ 0 ∷ []) (1 ∷ 0 ∷ []) 4294967295 (sevens 4) (sevens 3)) (proving 2 1 2, 1 ∷ 0 ∷ 1 ∷ 7 ∷ [], 0 ∷ 0 ∷ 7 ∷ [])
     (("the allowance taken for −1", (lacking 0 0 0 1, 1 ∷ 0 ∷ 0 ∷ 7 ∷ [], 1 ∷ 0 ∷ 7 ∷ []))
     ∷ ("the allowance for spent", (proving 2 1 4294967295, 1 ∷ 0 ∷ 1 ∷ 7 ∷ [], 0 ∷ 0 ∷ 7 ∷ []))
@@ -612,7 +637,7 @@ wrongStands =
     -- the first bad entry of the matrix, in reading order, rows and columns counted from 1
     ∷ tried (standLeft 3 2 (0 ∷ 3 ∷ 0 ∷ 0 ∷ []) (0 ∷ 0 ∷ []) (sevens 3) (sevens 2)) (refused (at 5 1 2))
     (("row and column swapped", refused (at 5 2 1))
-    ∷ (misplaced 5 1 2 ++ numberedAt "another number" 1 2 (0 ∷ 1 ∷ 2 ∷ 3 ∷ 4 ∷ 6 ∷ 7 ∷ 8 ∷ 10 ∷ 11 ∷ [])))
+    ∷ (misplaced 5 1 2 ++ numberedAt "another number" 1 2 (0 ∷ 1 ∷ 2 ∷ 3 ∷ 4 ∷ 6 ∷ 7 ∷ 8 ∷ 9 ∷ 10 ∷ 11 ∷ [])))
     ∷ tried (standLeft 3 2 (0 ∷ 0 ∷ 3 ∷ 0 ∷ []) (0 ∷ 0 ∷ []) (sevens 3) (sevens 2)) (refused (at 5 2 1))
     (("row and column swapped", refused (at 5 1 2)) ∷ ("the matrix taken for one row", refused (at 5 1 3)) ∷ misplaced 5 2 1)
     ∷ tried (standLeft 3 3 (0 ∷ 0 ∷ 3 ∷ 9 ∷ 0 ∷ 0 ∷ 0 ∷ 4 ∷ 0 ∷ []) [] (sevens 4) (sevens 3)) (refused (at 5 1 3))
@@ -628,7 +653,7 @@ wrongStands =
     ∷ ("the byte's number for the row; or rows counted on from the matrix's", refused (at 10 5 1))
     ∷ ("row 1, as for one vector", refused (at 10 1 1))
     ∷ ("row 0, as for a coefficient", refused (at 10 0 1))
-    ∷ (misplacedRow 3 1 ++ numberedAt "another number" 3 1 (0 ∷ 1 ∷ 2 ∷ 3 ∷ 4 ∷ 6 ∷ 7 ∷ 8 ∷ [])))
+    ∷ (misplacedRow 3 1 ++ numberedAt "another number" 3 1 (0 ∷ 1 ∷ 2 ∷ 3 ∷ 4 ∷ 6 ∷ 7 ∷ 8 ∷ 9 ∷ [])))
     ∷ tried (standLeft 3 2 (0 ∷ 0 ∷ 0 ∷ 0 ∷ []) (0 ∷ 0 ∷ 0 ∷ 3 ∷ 9 ∷ 0 ∷ 0 ∷ 4 ∷ []) (sevens 3) (sevens 2)) (refused (at 10 2 2))
     (("the last bad entry", refused (at 10 4 2))
     ∷ ("the second; or the largest; or the first, column by column", refused (at 10 3 1))
@@ -653,7 +678,7 @@ wrongStands =
     ∷ tried (standLeft 3 2 (9 ∷ 9 ∷ 9 ∷ 9 ∷ []) (9 ∷ 9 ∷ []) [] []) (refused (at 5 1 1))
     (("a later test's number, with its entry", refused (at 10 1 1)) ∷ numbered "a later test's number" (10 ∷ 6 ∷ []))
     ∷ tried (standLeft 3 2 (0 ∷ 0 ∷ 0 ∷ 0 ∷ []) (0 ∷ 0 ∷ []) [] []) (refused (alone 6))
-    (numbered "another number" (0 ∷ 1 ∷ 2 ∷ 3 ∷ 4 ∷ 5 ∷ 7 ∷ 8 ∷ 10 ∷ 11 ∷ []) ++ numberedAt "a place where no entry is bad" 1 1 (5 ∷ 6 ∷ 10 ∷ []))
+    (numbered "another number" (0 ∷ 1 ∷ 2 ∷ 3 ∷ 4 ∷ 5 ∷ 7 ∷ 8 ∷ 9 ∷ 10 ∷ 11 ∷ []) ++ numberedAt "a place where no entry is bad" 1 1 (5 ∷ 6 ∷ 10 ∷ []))
     ∷ []
 
 unfoldable pub wrongChains : List Trial
@@ -672,7 +697,7 @@ wrongChains =
     ∷ ("a byte beyond 2n changed in the stage buffer", (given 2, 1 ∷ 3 ∷ 1 ∷ 7 ∷ [], 1 ∷ 4 ∷ 1 ∷ 4 ∷ 0 ∷ []))
     ∷ ("the rows looked at counted as stages", (given 3, 1 ∷ 3 ∷ 1 ∷ 7 ∷ [], 1 ∷ 4 ∷ 1 ∷ 4 ∷ 7 ∷ []))
     ∷ ("one stage too few counted", (given 1, 1 ∷ 3 ∷ 1 ∷ 7 ∷ [], 1 ∷ 4 ∷ 1 ∷ 4 ∷ 7 ∷ []))
-    ∷ (numberedTwo "refused, and nothing is wrong" (sevens 4) (sevens 5) (0 ∷ 1 ∷ 2 ∷ 3 ∷ 4 ∷ 5 ∷ 6 ∷ 7 ∷ 8 ∷ 10 ∷ 11 ∷ [])
+    ∷ (numberedTwo "refused, and nothing is wrong" (sevens 4) (sevens 5) everyNumber
     ++ numberedAtTwo "refused for an entry, and nothing is wrong" (sevens 4) (sevens 5) 1 1 (5 ∷ 10 ∷ [])))
     -- [0 1 | 0 0] modulo 2 with (0,1), which gives x; then e(1) gives x, and e(2) is passed over
     ∷ tried (chainOn P10) (given 2, 0 ∷ 0 ∷ 1 ∷ 7 ∷ [], 1 ∷ 0 ∷ 1 ∷ 0 ∷ 7 ∷ [])
@@ -729,7 +754,7 @@ wrongChains =
     -- the first bad entry of the matrix, in reading order, rows and columns counted from 1
     ∷ tried (chainLeft 3 2 (0 ∷ 3 ∷ 0 ∷ 0 ∷ []) (0 ∷ 0 ∷ []) (sevens 3) (sevens 4)) (refused (at 5 1 2))
     (("row and column swapped", refused (at 5 2 1))
-    ∷ (misplaced 5 1 2 ++ numberedAt "another number" 1 2 (0 ∷ 1 ∷ 2 ∷ 3 ∷ 4 ∷ 6 ∷ 7 ∷ 8 ∷ 10 ∷ 11 ∷ [])))
+    ∷ (misplaced 5 1 2 ++ numberedAt "another number" 1 2 (0 ∷ 1 ∷ 2 ∷ 3 ∷ 4 ∷ 6 ∷ 7 ∷ 8 ∷ 9 ∷ 10 ∷ 11 ∷ [])))
     ∷ tried (chainLeft 3 2 (0 ∷ 0 ∷ 3 ∷ 0 ∷ []) (0 ∷ 0 ∷ []) (sevens 3) (sevens 4)) (refused (at 5 2 1))
     (("row and column swapped", refused (at 5 1 2)) ∷ ("the matrix taken for one row", refused (at 5 1 3)) ∷ misplaced 5 2 1)
     ∷ tried (chainLeft 3 3 (0 ∷ 0 ∷ 3 ∷ 9 ∷ 0 ∷ 0 ∷ 0 ∷ 4 ∷ 0 ∷ []) [] (sevens 4) (sevens 6)) (refused (at 5 1 3))
@@ -745,7 +770,7 @@ wrongChains =
     ∷ ("the byte's number for the row; or rows counted on from the matrix's", refused (at 10 5 1))
     ∷ ("row 1, as for one vector", refused (at 10 1 1))
     ∷ ("row 0, as for a coefficient", refused (at 10 0 1))
-    ∷ (misplacedRow 3 1 ++ numberedAt "another number" 3 1 (0 ∷ 1 ∷ 2 ∷ 3 ∷ 4 ∷ 6 ∷ 7 ∷ 8 ∷ [])))
+    ∷ (misplacedRow 3 1 ++ numberedAt "another number" 3 1 (0 ∷ 1 ∷ 2 ∷ 3 ∷ 4 ∷ 6 ∷ 7 ∷ 8 ∷ 9 ∷ [])))
     ∷ tried (chainLeft 3 2 (0 ∷ 0 ∷ 0 ∷ 0 ∷ []) (0 ∷ 0 ∷ 0 ∷ 3 ∷ 9 ∷ 0 ∷ 0 ∷ 4 ∷ []) (sevens 3) (sevens 4)) (refused (at 10 2 2))
     (("the last bad entry", refused (at 10 4 2))
     ∷ ("the second; or the largest; or the first, column by column", refused (at 10 3 1))
@@ -770,7 +795,7 @@ wrongChains =
     ∷ tried (chainLeft 3 2 (9 ∷ 9 ∷ 9 ∷ 9 ∷ []) (9 ∷ 9 ∷ []) [] []) (refused (at 5 1 1))
     (("a later test's number, with its entry", refused (at 10 1 1)) ∷ numbered "a later test's number" (10 ∷ 6 ∷ []))
     ∷ tried (chainLeft 3 2 (0 ∷ 0 ∷ 0 ∷ 0 ∷ []) (0 ∷ 0 ∷ []) [] []) (refused (alone 6))
-    (numbered "another number" (0 ∷ 1 ∷ 2 ∷ 3 ∷ 4 ∷ 5 ∷ 7 ∷ 8 ∷ 10 ∷ 11 ∷ []) ++ numberedAt "a place where no entry is bad" 1 1 (5 ∷ 6 ∷ 10 ∷ []))
+    (numbered "another number" (0 ∷ 1 ∷ 2 ∷ 3 ∷ 4 ∷ 5 ∷ 7 ∷ 8 ∷ 9 ∷ 10 ∷ 11 ∷ []) ++ numberedAt "a place where no entry is bad" 1 1 (5 ∷ 6 ∷ 10 ∷ []))
     ∷ []
 
 unfoldable pub wrongPeriods : List Trial
@@ -783,7 +808,7 @@ wrongPeriods =
     ∷ ("twice the period", given (some 4))
     ∷ ("counted from 0", given (some 0))
     ∷ ("refused for an entry, and nothing is wrong", refused (at 5 1 1))
-    ∷ numbered "refused, and nothing is wrong" (0 ∷ 1 ∷ 2 ∷ 3 ∷ 4 ∷ 5 ∷ 6 ∷ 7 ∷ 8 ∷ 10 ∷ 11 ∷ []))
+    ∷ numbered "refused, and nothing is wrong" everyNumber)
     -- the identity; [0 1 | 2 0] modulo 3, whose square is −1; unit rows that return after 4 and after 2 ticks; a period over 255
     ∷ tried (periodOn P6) (given (some 1))
     (("the power 0", given (some 0)) ∷ ("the second power that is the identity", given (some 2)) ∷ ("none", given none) ∷ [])
@@ -812,7 +837,7 @@ wrongPeriods =
     -- the first bad entry of the matrix, in reading order, rows and columns counted from 1
     ∷ tried (period-reply 3 2 (0 ∷ 3 ∷ 0 ∷ 0 ∷ [])) (refused (at 5 1 2))
     (("row and column swapped", refused (at 5 2 1))
-    ∷ (misplaced 5 1 2 ++ numberedAt "another number" 1 2 (0 ∷ 1 ∷ 2 ∷ 3 ∷ 4 ∷ 6 ∷ 7 ∷ 8 ∷ 10 ∷ 11 ∷ [])))
+    ∷ (misplaced 5 1 2 ++ numberedAt "another number" 1 2 (0 ∷ 1 ∷ 2 ∷ 3 ∷ 4 ∷ 6 ∷ 7 ∷ 8 ∷ 9 ∷ 10 ∷ 11 ∷ [])))
     ∷ tried (period-reply 3 2 (0 ∷ 0 ∷ 3 ∷ 0 ∷ [])) (refused (at 5 2 1))
     (("row and column swapped", refused (at 5 1 2)) ∷ ("the matrix taken for one row", refused (at 5 1 3)) ∷ misplaced 5 2 1)
     ∷ tried (period-reply 3 3 (0 ∷ 0 ∷ 3 ∷ 9 ∷ 0 ∷ 0 ∷ 0 ∷ 4 ∷ 0 ∷ [])) (refused (at 5 1 3))
@@ -826,8 +851,226 @@ wrongPeriods =
     ∷ tried (period-reply 3 65 (9 ∷ [])) (refused (alone 2)) (outOfTurn 2 (3 ∷ 5 ∷ []) (5 ∷ []))
     ∷ tried (period-reply 3 2 (9 ∷ [])) (refused (alone 3)) (outOfTurn 3 (5 ∷ []) (5 ∷ []))
     ∷ tried (period-reply 3 2 (9 ∷ 9 ∷ 9 ∷ 9 ∷ [])) (refused (at 5 1 1))
-    (("the last bad entry", refused (at 5 2 2)) ∷ numbered "another number" (0 ∷ 1 ∷ 2 ∷ 3 ∷ 4 ∷ 6 ∷ 7 ∷ 8 ∷ 10 ∷ 11 ∷ []))
+    (("the last bad entry", refused (at 5 2 2)) ∷ numbered "another number" (0 ∷ 1 ∷ 2 ∷ 3 ∷ 4 ∷ 6 ∷ 7 ∷ 8 ∷ 9 ∷ 10 ∷ 11 ∷ []))
+    ∷ []
+
+unfoldable pub wrongWrites : List Trial
+wrongWrites =
+    -- byte by byte: [1] modulo 2, no candidates, allowance 9
+    tried (write-reply 2 1 (1 ∷ []) [] 9 (sevens 17))
+    (given 13, 255 ∷ 70 ∷ 2 ∷ 1 ∷ 255 ∷ 65 ∷ 0 ∷ 9 ∷ 255 ∷ 82 ∷ 1 ∷ 255 ∷ 69 ∷ sevens 4)
+    (("the marks missing", (given 9, 70 ∷ 2 ∷ 1 ∷ 65 ∷ 0 ∷ 9 ∷ 82 ∷ 1 ∷ 69 ∷ sevens 8))
+    ∷ ("small letters", (given 13, 255 ∷ 102 ∷ 2 ∷ 1 ∷ 255 ∷ 97 ∷ 0 ∷ 9 ∷ 255 ∷ 114 ∷ 1 ∷ 255 ∷ 101 ∷ sevens 4))
+    ∷ ("figures as text", (given 13, 255 ∷ 70 ∷ 50 ∷ 49 ∷ 255 ∷ 65 ∷ 48 ∷ 57 ∷ 255 ∷ 82 ∷ 49 ∷ 255 ∷ 69 ∷ sevens 4))
+    ∷ ("the allowance in one byte", (given 12, 255 ∷ 70 ∷ 2 ∷ 1 ∷ 255 ∷ 65 ∷ 9 ∷ 255 ∷ 82 ∷ 1 ∷ 255 ∷ 69 ∷ sevens 5))
+    ∷ ("the end's letter missing", (given 12, 255 ∷ 70 ∷ 2 ∷ 1 ∷ 255 ∷ 65 ∷ 0 ∷ 9 ∷ 255 ∷ 82 ∷ 1 ∷ 255 ∷ sevens 5))
+    ∷ ("two A records", laid 17 (field 2 1 ∷ allow 0 9 ∷ allow 0 9 ∷ row (1 ∷ []) ∷ end ∷ []) [])
+    ∷ ("a candidate's record without a candidate", laid 15 (field 2 1 ∷ allow 0 9 ∷ row (1 ∷ []) ∷ candidate [] ∷ end ∷ []) (7 ∷ 7 ∷ []))
+    ∷ ("a zero row for no candidate", laid 16 (field 2 1 ∷ allow 0 9 ∷ row (1 ∷ []) ∷ candidate (0 ∷ []) ∷ end ∷ []) (7 ∷ []))
+    ∷ numberedOne "an empty list refused" (sevens 17) (4 ∷ []))
+    -- [2] modulo 3 with (1): 1,500 is 11·128 + 92
+    ∷ tried (writeOn 1500) (laid 16 (caseWith 11 92) (7 ∷ []))
+    (("nothing written", (given 16, sevens 17))
+    ∷ ("no A record", laid 12 (field 3 1 ∷ row (2 ∷ []) ∷ candidate (1 ∷ []) ∷ end ∷ []) (sevens 5))
+    ∷ ("the A record behind the rows", laid 16 (field 3 1 ∷ row (2 ∷ []) ∷ allow 11 92 ∷ candidate (1 ∷ []) ∷ end ∷ []) (7 ∷ []))
+    ∷ ("the halves swapped", laid 16 (caseWith 92 11) (7 ∷ []))
+    ∷ ("256 in the place of 128", laid 16 (caseWith 5 220) (7 ∷ []))
+    ∷ ("the high half 0", laid 16 (caseWith 0 92) (7 ∷ []))
+    ∷ ("the default for the allowance", laid 16 (caseWith 64 0) (7 ∷ []))
+    ∷ ("the length one short", laid 15 (caseWith 11 92) (7 ∷ []))
+    ∷ ("the length one long; or the buffer's", laid 17 (caseWith 11 92) (7 ∷ []))
+    ∷ ("the length without the A record", laid 12 (caseWith 11 92) (7 ∷ []))
+    ∷ ("the number of records for the length", laid 5 (caseWith 11 92) (7 ∷ []))
+    ∷ ("a byte behind the case changed", laid 16 (caseWith 11 92) (255 ∷ []))
+    ∷ ("a byte behind the case zeroed", laid 16 (caseWith 11 92) (0 ∷ []))
+    ∷ ("the byte behind the case gone", laid 16 (caseWith 11 92) [])
+    ∷ ("the case at the buffer's end", (given 16, 7 ∷ flat (caseWith 11 92)))
+    ∷ ("n before p", laid 16 (field 1 3 ∷ allow 11 92 ∷ row (2 ∷ []) ∷ candidate (1 ∷ []) ∷ end ∷ []) (7 ∷ []))
+    ∷ ("the candidates before the rows", laid 16 (field 3 1 ∷ allow 11 92 ∷ candidate (1 ∷ []) ∷ row (2 ∷ []) ∷ end ∷ []) (7 ∷ []))
+    ∷ ("a candidate among the rows", laid 16 (field 3 1 ∷ allow 11 92 ∷ row (2 ∷ []) ∷ row (1 ∷ []) ∷ end ∷ []) (7 ∷ []))
+    ∷ ("the candidates left out", laid 13 (field 3 1 ∷ allow 11 92 ∷ row (2 ∷ []) ∷ end ∷ []) (sevens 4))
+    ∷ ("the E record missing", laid 14 (field 3 1 ∷ allow 11 92 ∷ row (2 ∷ []) ∷ candidate (1 ∷ []) ∷ []) (sevens 3))
+    ∷ ("the E record missing and counted", laid 16 (field 3 1 ∷ allow 11 92 ∷ row (2 ∷ []) ∷ candidate (1 ∷ []) ∷ []) (sevens 3))
+    ∷ (numberedOne "refused, and nothing is wrong" (sevens 17) everyNumber
+    ++ numberedAtOne "refused for an entry, and nothing is wrong" (sevens 17) 1 1 (5 ∷ 10 ∷ [])))
+    -- the edges of the halves
+    ∷ tried (writeOn 0) (laid 16 (caseWith 0 0) (7 ∷ []))
+    (("an allowance of 0 left out", laid 12 (field 3 1 ∷ row (2 ∷ []) ∷ candidate (1 ∷ []) ∷ end ∷ []) (sevens 5))
+    ∷ ("the default for 0", laid 16 (caseWith 64 0) (7 ∷ []))
+    ∷ numberedOne "an allowance of 0 refused" (sevens 17) (9 ∷ []))
+    ∷ tried (writeOn 127) (laid 16 (caseWith 0 127) (7 ∷ []))
+    (("127 in the place of 128", laid 16 (caseWith 1 0) (7 ∷ [])) ∷ ("the halves swapped", laid 16 (caseWith 127 0) (7 ∷ [])) ∷ [])
+    ∷ tried (writeOn 128) (laid 16 (caseWith 1 0) (7 ∷ []))
+    (("128 in the low half", laid 16 (caseWith 0 128) (7 ∷ [])) ∷ ("the halves swapped", laid 16 (caseWith 0 1) (7 ∷ [])) ∷ [])
+    ∷ tried (writeOn 257) (laid 16 (caseWith 2 1) (7 ∷ []))
+    (("the allowance cut to a byte", laid 16 (caseWith 0 1) (7 ∷ [])) ∷ ("256 in the place of 128", laid 16 (caseWith 1 1) (7 ∷ [])) ∷ [])
+    ∷ tried (writeOn 8192) (laid 16 (caseWith 64 0) (7 ∷ []))
+    (("the default left out", laid 12 (field 3 1 ∷ row (2 ∷ []) ∷ candidate (1 ∷ []) ∷ end ∷ []) (sevens 5))
+    ∷ ("256 in the place of 128", laid 16 (caseWith 32 0) (7 ∷ []))
+    ∷ [])
+    ∷ tried (writeOn 16383) (laid 16 (caseWith 127 127) (7 ∷ []))
+    (("256 in the place of 128", laid 16 (caseWith 63 255) (7 ∷ [])) ∷ numberedOne "16,383 refused" (sevens 17) (9 ∷ []))
+    ∷ tried (writeOn 16384) (refused (alone 9), sevens 17)
+    (("16,384 taken", laid 16 (caseWith 128 0) (7 ∷ []))
+    ∷ ("16,384 taken, by 256", laid 16 (caseWith 64 0) (7 ∷ []))
+    ∷ ("16,384 cut to what the halves hold", laid 16 (caseWith 0 0) (7 ∷ []))
+    ∷ ("16,384 taken for the most that there is", laid 16 (caseWith 127 127) (7 ∷ []))
+    ∷ ("the case written by a refused call", (refused (alone 9), flat (caseWith 127 127) ++ (7 ∷ [])))
+    ∷ ("the first lent byte changed by a refused call", (refused (alone 9), 255 ∷ sevens 16))
+    ∷ ("a byte behind the case changed by a refused call", (refused (alone 9), sevens 16 ++ (0 ∷ [])))
+    ∷ ("the lent bytes gone after a refused call", (refused (alone 9), []))
+    ∷ (numberedOne "another number" (sevens 17) (0 ∷ 1 ∷ 2 ∷ 3 ∷ 4 ∷ 5 ∷ 6 ∷ 7 ∷ 8 ∷ 10 ∷ 11 ∷ 12 ∷ 13 ∷ [])
+    ++ (numberedAtOne "a place beside 9" (sevens 17) 1 1 (9 ∷ []) ++ numberedAtOne "a scalar's place beside 9" (sevens 17) 0 1 (9 ∷ 11 ∷ []))))
+    ∷ tried (writeOn 65664) (refused (alone 9), sevens 17) (("the allowance cut to 16 bits", laid 16 (caseWith 1 0) (7 ∷ [])) ∷ [])
+    ∷ tried (writeOn 4294967295) (refused (alone 9), sevens 17)
+    (("both halves cut to a byte", laid 16 (caseWith 255 127) (7 ∷ [])) ∷ ("the allowance taken for none", laid 16 (caseWith 0 0) (7 ∷ [])) ∷ [])
+    -- the rows in order, each from its first entry on: [1 2 | 3 4] modulo 5
+    ∷ tried (write-reply 5 2 (1 ∷ 2 ∷ 3 ∷ 4 ∷ []) [] 9 (sevens 18))
+    (laid 18 (field 5 2 ∷ allow 0 9 ∷ row (1 ∷ 2 ∷ []) ∷ row (3 ∷ 4 ∷ []) ∷ end ∷ []) [])
+    (("columns for rows", laid 18 (field 5 2 ∷ allow 0 9 ∷ row (1 ∷ 3 ∷ []) ∷ row (2 ∷ 4 ∷ []) ∷ end ∷ []) [])
+    ∷ ("the rows from the last on", laid 18 (field 5 2 ∷ allow 0 9 ∷ row (3 ∷ 4 ∷ []) ∷ row (1 ∷ 2 ∷ []) ∷ end ∷ []) [])
+    ∷ ("each row from its last entry on", laid 18 (field 5 2 ∷ allow 0 9 ∷ row (2 ∷ 1 ∷ []) ∷ row (4 ∷ 3 ∷ []) ∷ end ∷ []) [])
+    ∷ ("the first row again", laid 18 (field 5 2 ∷ allow 0 9 ∷ row (1 ∷ 2 ∷ []) ∷ row (1 ∷ 2 ∷ []) ∷ end ∷ []) [])
+    ∷ ("the first row alone", laid 14 (field 5 2 ∷ allow 0 9 ∷ row (1 ∷ 2 ∷ []) ∷ end ∷ []) (sevens 4))
+    ∷ ("the matrix in one record", laid 16 (field 5 2 ∷ allow 0 9 ∷ row (1 ∷ 2 ∷ 3 ∷ 4 ∷ []) ∷ end ∷ []) (7 ∷ 7 ∷ []))
+    ∷ [])
+    -- then the candidates in order: [1] modulo 5 with (2), (3)
+    ∷ tried (write-reply 5 1 (1 ∷ []) (2 ∷ 3 ∷ []) 9 (sevens 19))
+    (laid 19 (field 5 1 ∷ allow 0 9 ∷ row (1 ∷ []) ∷ candidate (2 ∷ []) ∷ candidate (3 ∷ []) ∷ end ∷ []) [])
+    (("the candidates from the last on", laid 19 (field 5 1 ∷ allow 0 9 ∷ row (1 ∷ []) ∷ candidate (3 ∷ []) ∷ candidate (2 ∷ []) ∷ end ∷ []) [])
+    ∷ ("the candidates before the rows", laid 19 (field 5 1 ∷ allow 0 9 ∷ candidate (2 ∷ []) ∷ candidate (3 ∷ []) ∷ row (1 ∷ []) ∷ end ∷ []) [])
+    ∷ ("the first candidate again", laid 19 (field 5 1 ∷ allow 0 9 ∷ row (1 ∷ []) ∷ candidate (2 ∷ []) ∷ candidate (2 ∷ []) ∷ end ∷ []) [])
+    ∷ ("the first candidate alone", laid 16 (field 5 1 ∷ allow 0 9 ∷ row (1 ∷ []) ∷ candidate (2 ∷ []) ∷ end ∷ []) (sevens 3))
+    ∷ ("the candidates in one record", laid 17 (field 5 1 ∷ allow 0 9 ∷ row (1 ∷ []) ∷ candidate (2 ∷ 3 ∷ []) ∷ end ∷ []) (7 ∷ 7 ∷ []))
+    ∷ [])
+    -- the edges of p, n and the list
+    ∷ tried (write-reply 251 1 (250 ∷ []) (250 ∷ []) 9 (sevens 16))
+    (laid 16 (field 251 1 ∷ allow 0 9 ∷ row (250 ∷ []) ∷ candidate (250 ∷ []) ∷ end ∷ []) [])
+    (numberedOne "p = 251 refused" (sevens 16) (1 ∷ []))
+    ∷ tried (write-reply 4 1 (1 ∷ []) [] 9 (sevens 13)) (refused (alone 1), sevens 13)
+    (("p = 4 written", laid 13 (field 4 1 ∷ allow 0 9 ∷ row (1 ∷ []) ∷ end ∷ []) []) ∷ [])
+    ∷ tried (write-reply 257 1 (1 ∷ []) [] 9 (sevens 13)) (refused (alone 1), sevens 13)
+    (("a prime over 251 written, cut to a byte", laid 13 (field 1 1 ∷ allow 0 9 ∷ row (1 ∷ []) ∷ end ∷ []) []) ∷ [])
+    ∷ tried (write-reply 258 1 (1 ∷ []) [] 9 (sevens 13)) (refused (alone 1), sevens 13)
+    (("p = 258 cut to a byte and written as 2", laid 13 (field 2 1 ∷ allow 0 9 ∷ row (1 ∷ []) ∷ end ∷ []) []) ∷ [])
+    ∷ tried (write-reply 2 64 (replicate 4096 0) [] 9 (sevens 4234))
+    (laid 4234 (field 2 64 ∷ allow 0 9 ∷ (replicate 64 (row (replicate 64 0)) ++ (end ∷ []))) [])
+    (numberedOne "n = 64 refused" (sevens 4234) (2 ∷ []))
+    ∷ tried (write-reply 2 65 (replicate 4225 0) [] 9 (sevens 4365)) (refused (alone 2), sevens 4365)
+    (("n = 65 written", laid 4365 (field 2 65 ∷ allow 0 9 ∷ (replicate 65 (row (replicate 65 0)) ++ (end ∷ []))) []) ∷ [])
+    ∷ tried (write-reply 2 257 (1 ∷ []) [] 9 (sevens 13)) (refused (alone 2), sevens 13)
+    (("n = 257 cut to a byte and written as 1", laid 13 (field 2 1 ∷ allow 0 9 ∷ row (1 ∷ []) ∷ end ∷ []) []) ∷ [])
+    ∷ tried (write-reply 2 0 [] [] 9 (sevens 10)) (refused (alone 2), sevens 10)
+    (("n = 0 written", laid 10 (field 2 0 ∷ allow 0 9 ∷ end ∷ []) []) ∷ [])
+    ∷ tried (write-reply 2 1 (1 ∷ []) (replicate 128 0) 9 (sevens 397))
+    (laid 397 (field 2 1 ∷ allow 0 9 ∷ row (1 ∷ []) ∷ (replicate 128 (candidate (0 ∷ [])) ++ (end ∷ []))) [])
+    (("the length cut to a byte", laid 141 (field 2 1 ∷ allow 0 9 ∷ row (1 ∷ []) ∷ (replicate 128 (candidate (0 ∷ [])) ++ (end ∷ []))) [])
+    ∷ (
+      "the last candidate left out",
+      laid 394 (field 2 1 ∷ allow 0 9 ∷ row (1 ∷ []) ∷ (replicate 127 (candidate (0 ∷ [])) ++ (end ∷ []))) (sevens 3),
+    )
+    ∷ numberedOne "128 candidates refused" (sevens 397) (4 ∷ []))
+    ∷ tried (write-reply 2 1 (1 ∷ []) (replicate 129 0) 9 (sevens 400)) (refused (alone 4), sevens 400)
+    (("129 candidates written", laid 400 (field 2 1 ∷ allow 0 9 ∷ row (1 ∷ []) ∷ (replicate 129 (candidate (0 ∷ [])) ++ (end ∷ []))) [])
+    ∷ (
+      "128 of 129 candidates written",
+      laid 397 (field 2 1 ∷ allow 0 9 ∷ row (1 ∷ []) ∷ (replicate 128 (candidate (0 ∷ [])) ++ (end ∷ []))) (sevens 3),
+    )
+    ∷ [])
+    -- what is too long, too short or too large is refused, and no lent byte changes
+    ∷ tried (write-reply 3 1 (2 ∷ 2 ∷ []) (1 ∷ []) 0 (sevens 17)) (refused (alone 3), sevens 17)
+    (("the first n·n bytes taken", laid 16 (caseWith 0 0) (7 ∷ [])) ∷ [])
+    ∷ tried (write-reply 3 2 (2 ∷ 0 ∷ 0 ∷ 2 ∷ []) (1 ∷ []) 0 (sevens 23)) (refused (alone 4), sevens 23)
+    (("the whole rows of the list written", laid 18 (field 3 2 ∷ allow 0 0 ∷ row (2 ∷ 0 ∷ []) ∷ row (0 ∷ 2 ∷ []) ∷ end ∷ []) (sevens 5))
+    ∷ (
+      "the last candidate filled up with zeros",
+      laid 22 (field 3 2 ∷ allow 0 0 ∷ row (2 ∷ 0 ∷ []) ∷ row (0 ∷ 2 ∷ []) ∷ candidate (1 ∷ 0 ∷ []) ∷ end ∷ []) (7 ∷ []),
+    )
+    ∷ [])
+    ∷ tried (write-reply 3 1 (5 ∷ []) (1 ∷ []) 0 (sevens 17)) (refused (at 5 1 1), sevens 17)
+    (("an entry over p written", laid 16 (field 3 1 ∷ allow 0 0 ∷ row (5 ∷ []) ∷ candidate (1 ∷ []) ∷ end ∷ []) (7 ∷ []))
+    ∷ ("an entry over p reduced first", laid 16 (caseWith 0 0) (7 ∷ []))
+    ∷ ("row and column written to the buffer", (refused (at 5 1 1), 1 ∷ 1 ∷ sevens 15))
+    ∷ [])
+    ∷ tried (write-reply 3 1 (2 ∷ []) (4 ∷ []) 0 (sevens 17)) (refused (at 10 1 1), sevens 17)
+    (("an entry over p of a candidate written", laid 16 (field 3 1 ∷ allow 0 0 ∷ row (2 ∷ []) ∷ candidate (4 ∷ []) ∷ end ∷ []) (7 ∷ []))
+    ∷ ("an entry over p of a candidate reduced first", laid 16 (caseWith 0 0) (7 ∷ []))
+    ∷ ("the rows written by a refused call", (refused (at 10 1 1), flat (field 3 1 ∷ allow 0 0 ∷ row (2 ∷ []) ∷ []) ++ sevens 6))
+    ∷ [])
+    -- a buffer as long as the case is taken; one byte less is too short, and so is one that would hold it without its A record
+    ∷ tried (write-reply 3 1 (2 ∷ []) (1 ∷ []) 9 (sevens 16)) (laid 16 (caseWith 0 9) [])
+    (numberedOne "a buffer as long as the case refused" (sevens 16) (6 ∷ []))
+    ∷ tried (write-reply 3 1 (2 ∷ []) (1 ∷ []) 9 (sevens 15)) (refused (alone 6), sevens 15)
+    (("a buffer one byte short taken", (given 16, flat (field 3 1 ∷ allow 0 9 ∷ row (2 ∷ []) ∷ candidate (1 ∷ []) ∷ []) ++ (255 ∷ [])))
+    ∷ ("a buffer that is longer afterwards", laid 16 (caseWith 0 9) [])
+    ∷ ("the case without its candidate", laid 13 (field 3 1 ∷ allow 0 9 ∷ row (2 ∷ []) ∷ end ∷ []) (7 ∷ 7 ∷ []))
+    ∷ (
+      "as much as fits written by a refused call",
+      (refused (alone 6), flat (field 3 1 ∷ allow 0 9 ∷ row (2 ∷ []) ∷ candidate (1 ∷ []) ∷ []) ++ (255 ∷ [])),
+    )
+    ∷ ("the short buffer's first byte changed", (refused (alone 6), 255 ∷ sevens 14))
+    ∷ ("the short buffer's last byte changed", (refused (alone 6), sevens 14 ++ (255 ∷ [])))
+    ∷ [])
+    ∷ tried (write-reply 3 1 (2 ∷ []) (1 ∷ []) 8192 (sevens 12)) (refused (alone 6), sevens 12)
+    (("the default left out, so that the case fits", laid 12 (field 3 1 ∷ row (2 ∷ []) ∷ candidate (1 ∷ []) ∷ end ∷ []) []) ∷ [])
+    -- the first bad entry of the matrix, in reading order, rows and columns counted from 1
+    ∷ tried (writeLeft 3 2 (0 ∷ 3 ∷ 0 ∷ 0 ∷ []) (0 ∷ 0 ∷ []) 9 (sevens 22)) (refused (at 5 1 2))
+    (("row and column swapped", refused (at 5 2 1))
+    ∷ (misplaced 5 1 2 ++ numberedAt "another number" 1 2 (0 ∷ 1 ∷ 2 ∷ 3 ∷ 4 ∷ 6 ∷ 7 ∷ 8 ∷ 9 ∷ 10 ∷ 11 ∷ [])))
+    ∷ tried (writeLeft 3 2 (0 ∷ 0 ∷ 3 ∷ 0 ∷ []) (0 ∷ 0 ∷ []) 9 (sevens 22)) (refused (at 5 2 1))
+    (("row and column swapped", refused (at 5 1 2))
+    ∷ ("the matrix taken for one row", refused (at 5 1 3))
+    ∷ ("its record, and its byte in the record", refused (at 5 4 3))
+    ∷ misplaced 5 2 1)
+    ∷ tried (writeLeft 3 3 (0 ∷ 0 ∷ 3 ∷ 9 ∷ 0 ∷ 0 ∷ 0 ∷ 4 ∷ 0 ∷ []) [] 9 (sevens 25)) (refused (at 5 1 3))
+    (("the last bad entry", refused (at 5 3 2))
+    ∷ ("the second; or the largest; or the first, column by column", refused (at 5 2 1))
+    ∷ ("row and column swapped", refused (at 5 3 1))
+    ∷ misplaced 5 1 3)
+    ∷ tried (writeLeft 3 1 (3 ∷ []) [] 9 (sevens 13)) (refused (at 5 1 1)) (misplaced 5 1 1)
+    -- of the candidates, whose rows are counted from 1 too
+    ∷ tried (writeLeft 3 2 (0 ∷ 0 ∷ 0 ∷ 0 ∷ []) (1 ∷ 0 ∷ 0 ∷ 1 ∷ 3 ∷ 0 ∷ []) 9 (sevens 30)) (refused (at 10 3 1))
+    (("row and column swapped", refused (at 10 1 3))
+    ∷ ("the candidates taken for one row", refused (at 10 1 5))
+    ∷ ("the byte's number for the row; or rows counted on from the matrix's", refused (at 10 5 1))
+    ∷ ("row 1, as for one vector", refused (at 10 1 1))
+    ∷ ("row 0, as for a coefficient", refused (at 10 0 1))
+    ∷ (misplacedRow 3 1 ++ numberedAt "another number" 3 1 (0 ∷ 1 ∷ 2 ∷ 3 ∷ 4 ∷ 6 ∷ 7 ∷ 8 ∷ 9 ∷ [])))
+    ∷ tried (writeLeft 3 2 (0 ∷ 0 ∷ 0 ∷ 0 ∷ []) (0 ∷ 0 ∷ 0 ∷ 3 ∷ 9 ∷ 0 ∷ 0 ∷ 4 ∷ []) 9 (sevens 34)) (refused (at 10 2 2))
+    (("the last bad entry", refused (at 10 4 2))
+    ∷ ("the second; or the largest; or the first, column by column", refused (at 10 3 1))
+    ∷ misplacedRow 2 2)
+    ∷ tried (writeLeft 2 1 (0 ∷ []) (replicate 127 0 ++ (2 ∷ [])) 9 (sevens 397)) (refused (at 10 128 1))
+    (("row and column swapped", refused (at 10 1 128)) ∷ misplacedRow 128 1)
+    -- both, or one of them and a short buffer
+    ∷ tried (writeLeft 3 2 (0 ∷ 0 ∷ 3 ∷ 0 ∷ []) (0 ∷ 3 ∷ []) 9 []) (refused (at 5 2 1))
+    (("a candidate told before the matrix", refused (at 10 1 2))
+    ∷ ("the matrix's number at the candidate's place", refused (at 5 1 2))
+    ∷ ("a candidate's number at the matrix's place", refused (at 10 2 1))
+    ∷ ("the buffer told before the entries", refused (alone 6))
+    ∷ misplaced 5 2 1)
+    ∷ tried (writeLeft 3 2 (0 ∷ 0 ∷ 0 ∷ 0 ∷ []) (0 ∷ 3 ∷ []) 9 []) (refused (at 10 1 2))
+    (("the buffer told before the entries", refused (alone 6)) ∷ misplacedRow 1 2)
+    -- one fault, and an allowance that is too large: 9 stands behind all but 6
+    ∷ tried (writeLeft 4 1 (0 ∷ []) [] 16384 (sevens 13)) (refused (alone 1)) (("9 before 1", refused (alone 9)) ∷ [])
+    ∷ tried (writeLeft 3 0 [] [] 16384 (sevens 10)) (refused (alone 2)) (("9 before 2", refused (alone 9)) ∷ [])
+    ∷ tried (writeLeft 3 1 [] [] 16384 (sevens 13)) (refused (alone 3)) (("9 before 3", refused (alone 9)) ∷ [])
+    ∷ tried (writeLeft 3 2 (0 ∷ 0 ∷ 0 ∷ 0 ∷ []) (0 ∷ []) 16384 (sevens 22)) (refused (alone 4)) (("9 before 4", refused (alone 9)) ∷ [])
+    ∷ tried (writeLeft 3 1 (3 ∷ []) [] 16384 (sevens 13)) (refused (at 5 1 1)) (("9 before 5", refused (alone 9)) ∷ misplaced 5 1 1)
+    ∷ tried (writeLeft 3 1 (0 ∷ []) (3 ∷ []) 16384 (sevens 16)) (refused (at 10 1 1)) (("9 before 10", refused (alone 9)) ∷ misplacedRow 1 1)
+    ∷ tried (writeLeft 3 1 (0 ∷ []) [] 16384 (sevens 12)) (refused (alone 9)) (outOfTurn 9 (6 ∷ []) [])
+    -- several faults at once
+    ∷ tried (writeLeft 4 65 (9 ∷ []) (9 ∷ []) 16384 []) (refused (alone 1)) (outOfTurn 1 (2 ∷ 3 ∷ 4 ∷ 5 ∷ 10 ∷ 9 ∷ 6 ∷ []) (5 ∷ 10 ∷ []))
+    ∷ tried (writeLeft 3 65 (9 ∷ []) (9 ∷ []) 16384 []) (refused (alone 2)) (outOfTurn 2 (3 ∷ 4 ∷ 5 ∷ 10 ∷ 9 ∷ 6 ∷ []) (5 ∷ 10 ∷ []))
+    ∷ tried (writeLeft 3 2 (9 ∷ []) (9 ∷ []) 16384 []) (refused (alone 3)) (outOfTurn 3 (4 ∷ 5 ∷ 10 ∷ 9 ∷ 6 ∷ []) (5 ∷ 10 ∷ []))
+    ∷ tried (writeLeft 3 2 (9 ∷ 9 ∷ 9 ∷ 9 ∷ []) (9 ∷ []) 16384 []) (refused (alone 4)) (outOfTurn 4 (5 ∷ 10 ∷ 9 ∷ 6 ∷ []) (5 ∷ 10 ∷ []))
+    ∷ tried (writeLeft 3 2 (9 ∷ 9 ∷ 9 ∷ 9 ∷ []) (9 ∷ 9 ∷ []) 16384 []) (refused (at 5 1 1))
+    (("a later test's number, with its entry", refused (at 10 1 1)) ∷ numbered "a later test's number" (10 ∷ 9 ∷ 6 ∷ []))
+    ∷ tried (writeLeft 3 2 (0 ∷ 0 ∷ 0 ∷ 0 ∷ []) (9 ∷ 9 ∷ []) 16384 []) (refused (at 10 1 1)) (numbered "a later test's number" (9 ∷ 6 ∷ []))
+    ∷ tried (writeLeft 3 2 (0 ∷ 0 ∷ 0 ∷ 0 ∷ []) (0 ∷ 0 ∷ []) 9 []) (refused (alone 6))
+    (numbered "another number" (0 ∷ 1 ∷ 2 ∷ 3 ∷ 4 ∷ 5 ∷ 7 ∷ 8 ∷ 9 ∷ 10 ∷ 11 ∷ 12 ∷ 13 ∷ [])
+    ++ numberedAt "a place where no entry is bad" 1 1 (5 ∷ 6 ∷ 9 ∷ 10 ∷ []))
     ∷ []
 
 unfoldable pub wrongAnswers : List Trial
-wrongAnswers = wrongInverses ++ (wrongOrders ++ (wrongImages ++ (wrongStands ++ (wrongChains ++ wrongPeriods))))
+wrongAnswers = wrongInverses ++ (wrongOrders ++ (wrongImages ++ (wrongStands ++ (wrongChains ++ (wrongPeriods ++ wrongWrites)))))
