@@ -22,6 +22,14 @@ impl Case {
         self.stated.unwrap_or(DEFAULT_ALLOWANCE)
     }
 
+    /// The same values with the allowance stated.
+    pub fn stating(self) -> Case {
+        Case {
+            stated: Some(self.allowance()),
+            ..self
+        }
+    }
+
     /// The records of the case file, in order.
     pub fn records(&self) -> Vec<Vec<u8>> {
         let mut records = vec![];

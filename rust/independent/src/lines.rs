@@ -66,8 +66,16 @@ pub fn is_comment(text: &str) -> bool {
     text.is_empty() || text.starts_with('#')
 }
 
-/// Prints the word and the answer of each line on standard input.
+/// Prints the word and the answer of each line of numbers on standard input.
 pub fn answer_all(answer: impl Fn(&Line) -> String) {
+    print_all(|text| {
+        let line = Line::parse(text);
+        format!("{} {}", line.word, answer(&line))
+    });
+}
+
+/// Prints what each line on standard input is to print.
+pub fn print_all(printed: impl Fn(&str) -> String) {
     let mut text = String::new();
     std::io::stdin()
         .read_to_string(&mut text)
@@ -75,10 +83,8 @@ pub fn answer_all(answer: impl Fn(&Line) -> String) {
     for text in text.lines() {
         if is_comment(text) {
             println!("{text}");
-            continue;
+        } else {
+            println!("{}", printed(text).trim_end());
         }
-        let line = Line::parse(text);
-        let printed = format!("{} {}", line.word, answer(&line));
-        println!("{}", printed.trim_end());
     }
 }

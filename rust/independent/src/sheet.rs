@@ -86,14 +86,6 @@ mod tests {
         }
     }
 
-    /// What was read, its allowance as if it were stated.
-    fn stating(read: Result<Case, usize>) -> Result<Case, usize> {
-        read.map(|case| Case {
-            stated: Some(case.allowance()),
-            ..case
-        })
-    }
-
     /// The samples print their stored sheets, and both readers read them alike.
     #[test]
     fn sample_cases() {
@@ -108,7 +100,7 @@ mod tests {
                 assert_eq!(printed(&file), stored, "{path:?}");
                 assert_eq!(
                     read_by_grammar(&file),
-                    stating(Case::read(&file)),
+                    Case::read(&file).map(Case::stating),
                     "{path:?}"
                 );
                 count += 1;
