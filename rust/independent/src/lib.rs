@@ -3,6 +3,7 @@
 
 pub mod calls;
 pub mod case;
+pub mod design;
 pub mod grammar;
 pub mod lines;
 pub mod naive;
