@@ -260,6 +260,7 @@ pub fn read(text: &[u8]) -> Result<Case, Mistake> {
 #[cfg(test)]
 mod tests {
     use super::*;
+    use crate::grammar;
     use crate::numbers::Numbers;
 
     const EIGHTEEN: &str = "field,3,2\nrow,0,1\nrow,2,0\ncandidate,1,0\n";
@@ -471,6 +472,27 @@ mod tests {
         told("field,3,2,\r\r\n", 1, 4, "the end of the line");
         told("field,3,2\rrow,0,1\r", 1, 3, "a number from 1 to 64");
         told("\r\r\n", 1, 1, "the word field");
+    }
+
+    /// Each sample that is a case has a text beside it that says the same, its allowance only where
+    /// the case states it; no other sample has one.
+    #[test]
+    fn sample_texts() {
+        let folder = concat!(env!("CARGO_MANIFEST_DIR"), "/../../cases");
+        let mut count = 0;
+        for entry in std::fs::read_dir(folder).expect("the samples are there") {
+            let path = entry.expect("a sample").path();
+            if path.extension().is_some_and(|e| e == "case") {
+                let file = std::fs::read(&path).expect("a case");
+                let text = std::fs::read(path.with_extension("csv")).ok();
+                let wide: Row = file.iter().map(|&x| x.into()).collect();
+                let expected = grammar::values(&wide).map(|_| Ok(file));
+                let found = text.map(|text| read(&text).map(|case| case.bytes()));
+                assert_eq!(found, expected, "{path:?}");
+                count += usize::from(found.is_some());
+            }
+        }
+        assert_ne!(count, 0);
     }
 
     /// Every right text of up to two candidates whose numbers are 0, 1, 67 and 17,000: cells, and
