@@ -452,9 +452,11 @@ mod tests {
         told(format!("{EIGHTEEN}candidate,1,0,1"), 5, 4, end);
     }
 
-    /// The first of the three bytes, and no other, is the separator.
+    /// The first of the three bytes, however far behind, and no other is the separator.
     #[test]
     fn one_separator() {
+        let blank = "\r\n".repeat(300);
+        is_eighteen(&format!("{blank}{}", EIGHTEEN.replace(',', ";")));
         told("field,3;2", 1, 2, "a prime from 2 to 251");
         told("field;3,2", 1, 2, "a prime from 2 to 251");
         told("field\t3\t2,", 1, 3, "a number from 1 to 64");
