@@ -1,6 +1,5 @@
 -- The writer and the reader, of the code's own answers (02, #101): what one gives goes through the other and comes back. Of each no more is known than
 -- what its contract says.
---   read-case        a file that is a case is read as that case
 --   written-read     "Reading it back gives the same values"
 --   read-written     "any case that carries an `A` record is rewritten to itself byte for byte"
 -- Assumes nothing.
@@ -15,26 +14,16 @@ use Rattle.meaning.specs.Bounds.{matrixRoom, candidateRoom}
 use Rattle.meaning.specs.Case.{Case, IsCase, allowanceOf, matrixBytes, candidateBytes}
 use Rattle.meaning.specs.Writing.{WriteCall}
 use Rattle.meaning.proofs.Case.{flatten-length, case-sound}
-use Rattle.meaning.proofs.CaseBytes.{case-unique}
 use Rattle.meaning.proofs.Written.{padded-take}
 use Rattle.promises.proofs.Writing.{written-values, case-rewritten}
-use Rattle.casefile.specs.Reading.{valuesOf, ReadIs, reads, refuses}
+use Rattle.casefile.specs.Reading.{valuesOf, ReadIs}
+use Rattle.casefile.proofs.AsRead.{read-case}
 use Rattle.casefile.specs.declared.Contents.{Contents}
 use Rattle.casefile.specs.declared.Reading.the-variants as reading
 use Rattle.writer.specs.Answers.{writtenOf}
 use Rattle.writer.specs.declared.Written.{Written}
 use Rattle.writer.specs.declared.Written.the-variants as written
 use Rattle.answers.proofs.Unique.{written-only}
-
--- a file that is a case is read as that case
-record ReadAs (c : Case) (r : Contents) : Type 0 where
-  values : valuesOf (r .answer) ≡ some (c .p, c .n, allowanceOf c, length (c .candidates))
-  matrix : r .matrix ≡ padded matrixRoom (matrixBytes c)
-  candidates : r .candidates ≡ padded candidateRoom (candidateBytes c)
-
-read-case : {s : List ℕ} {c : Case} {r : Contents} → IsCase s c → ReadIs s r → ReadAs c r
-read-case {r = r} I (reads d K v m cs) = subst (λ x. ReadAs x r) (case-unique K I) (record { values = v; matrix = m; candidates = cs })
-read-case {c = c} I (refuses k none-is at e m cs) = absurd (none-is c I)
 
 -- what was written, read: the contents have the values that were given
 pub written-read : (p n : ℕ) (m cs : List ℕ) (a k : ℕ) {old new : List ℕ} {r : Contents} → WriteCall p n m cs a old (writtenOf (written.Length k)) new

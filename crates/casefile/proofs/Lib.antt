@@ -3,3 +3,4 @@ pub mod Handed
 pub mod Noting
 pub mod Underway
 pub mod Results
+pub mod AsRead

@@ -43,7 +43,7 @@ viable-begins s g =
     let c = over-case (s ++ l .rest) (run-append Start s (l .rest) ∙ l .ends) in
     record { rest = l .rest; case = c .0; is = c .1 }
 
-begins-alive : (s : List ℕ) → Begins s → Alive (run Start s)
+pub begins-alive : (s : List ℕ) → Begins s → Alive (run Start s)
 begins-alive s b =
     run-alive (run Start s) (b .rest) (viable-alive (subst Viable (sym (case-over (b .is)) ∙ run-append Start s (b .rest)) tt))
 

@@ -1,0 +1,4 @@
+pub mod Tests
+pub mod Reached
+pub mod Ends
+pub mod Designed

@@ -1,0 +1,5 @@
+pub mod Steps
+pub mod Outcome
+pub mod Saying
+pub mod Pieces
+pub mod Lines
