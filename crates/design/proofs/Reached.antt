@@ -5,13 +5,12 @@
 --   proper-due       and what is expected is proper
 -- Assumes nothing.
 use mathlib.Core.Path.{_≡_, refl, sym, ap, subst, _∙_}
-use mathlib.Core.Bool.{Bool, true, false, _&&_, _||_, cond, true≢false, false≢true, and-eq-true-iff}
+use mathlib.Core.Bool.{Bool, true, false, _||_, cond, true≢false, false≢true, and-eq-true-iff}
 use mathlib.Core.Logic.{_⊎_, inl, inr, ⊎-elim}
-use mathlib.Core.List.{List, [], _∷_, _++_}
-use Prim.Native.Nat.{ℕ, _+_, _-_, _<_, _≤_}
-use native.Mathlib.Omega.{arith}
+use mathlib.Core.List.{List, [], _∷_}
+use Prim.Native.Nat.{ℕ, _+_, _-_, _<_}
 use lib.Dec.{leb, ltb, eqb}
-use borrow.Author.Tests.{leb-true, ltb-true, ltb-false, eqb-true, eqb-false, le-leb, lt-leb, lt-ltb, le-ltb, eq-eqb, ne-eqb}
+use borrow.Author.Tests.{leb-true, ltb-false, eqb-true, eqb-false, le-leb, lt-ltb, le-ltb}
 use Rattle.algebra.proofs.Field.{pick-each}
 use Rattle.meaning.specs.Bounds.{widest, mostCandidates}
 use Rattle.meaning.specs.Refusal.{isPrime}
@@ -21,7 +20,7 @@ use Rattle.scan.specs.declared.Head.{Head}
 use Rattle.scan.specs.declared.State.{State}
 use Rattle.scan.specs.declared.State.the-variants.{Start, Opening, Modulus, Size, Body, Letter, Entries, Over, Dead}
 use Rattle.scan.specs.Machine.{only, begun, stale, opened, sized, letter, entered, after, run}
-use Rattle.scan.proofs.Run.{Alive, run-dead}
+use Rattle.scan.proofs.Run.{Alive}
 use Rattle.spelling.specs.Trace.{isDead}
 use Rattle.design.specs.Expecting.{expectedOf}
 

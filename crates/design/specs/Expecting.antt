@@ -3,7 +3,7 @@
 --   expectedOf q   what may come in the state q of the scan
 -- Assumes nothing.
 use mathlib.Core.Bool.{cond}
-use Prim.Native.Nat.{ℕ, _+_}
+use Prim.Native.Nat.{_+_}
 use lib.Dec.{ltb, eqb}
 use Rattle.meaning.specs.Bounds.{mostCandidates}
 use Rattle.meaning.specs.Case.{radix}

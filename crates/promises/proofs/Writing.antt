@@ -3,7 +3,6 @@
 --   write-over         an allowance over 16,383 says 9, whatever the buffer
 --   write-short        a buffer that is shorter than the case says 6
 --   write-length       how long the case is
---   HasValues c p n m cs a   the values of the case c, its A record among them
 --   written-values     "Reading it back gives the same values": what was written is a case, and it has the values that were given
 --   case-rewritten     "any case that carries an `A` record is rewritten to itself byte for byte"
 --   written-kept       "bytes after it keep their content"
@@ -21,7 +20,8 @@ use Rattle.meaning.specs.Bounds.{mostAllowance, Sound, SoundRows}
 use Rattle.meaning.specs.Refusal.{alone}
 use Rattle.meaning.specs.Case.{Case, IsCase, caseBytes, allowanceOf, matrixBytes, candidateBytes}
 use Rattle.meaning.specs.Calls.{Answer, refused, given}
-use Rattle.meaning.specs.Writing.{halvesOf, caseOf, caseWritten, WriteCall}
+use Rattle.meaning.specs.Writing.{caseOf, caseWritten, WriteCall}
+use Rattle.promises.specs.Writing.{HasValues}
 use Rattle.meaning.proofs.Called.{called-given}
 use Rattle.meaning.proofs.Case.{case-sound, case-sound-rows}
 use Rattle.meaning.proofs.Writing.{write-sound, sound-write, over-write, short-write, written-case, written-length, written-only, caseOf-again}
@@ -69,14 +69,6 @@ pub write-length : (p n : ℕ) (m cs : List ℕ) (a : ℕ) {old new : List ℕ} 
 write-length p n m cs a C =
     let W = wrote p n m cs a C in
     called-given C .1 .0 ∙ written-length p n m cs a (W .matrix) (W .list)
-
-pub record HasValues (c : Case) (p n : ℕ) (m cs : List ℕ) (a : ℕ) : Type 0 where
-  pub prime : c .p ≡ p
-  pub size : c .n ≡ n
-  pub matrix : matrixBytes c ≡ m
-  pub candidates : candidateBytes c ≡ cs
-  pub allowance : allowanceOf c ≡ a
-  pub with-record : c .allowance ≡ some (halvesOf a)
 
 pub written-values : (p n : ℕ) (m cs : List ℕ) (a : ℕ) {old new : List ℕ} {k : ℕ} → WriteCall p n m cs a old (given k) new
     → (c : Case) × IsCase (take k new) c × HasValues c p n m cs a

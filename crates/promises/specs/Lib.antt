@@ -5,3 +5,4 @@ pub mod CallRun
 pub mod Sheet
 pub mod Wrong
 pub mod Refused
+pub mod Writing

@@ -7,13 +7,13 @@
 --   text-start, lines-turn, lines-last   before the first line, one line more, behind the last
 --   end-line        a line ends in itself, or where the line before did
 -- Assumes nothing.
-use mathlib.Core.Path.{_≡_, refl, sym, ap, ap₂, subst, _∙_}
+use mathlib.Core.Path.{_≡_, refl, sym, ap, ap₂, _∙_}
 use mathlib.Core.List.{List, [], _∷_}
-use Prim.Native.Nat.{ℕ, suc, _+_, _-_, _<_, _≤_}
+use Prim.Native.Nat.{ℕ, _+_, _<_, _≤_}
 use native.Mathlib.Nat.{sub-zero}
 use native.Mathlib.Numerals.{add-one}
 use native.Mathlib.Omega.{arith}
-use lib.ListN.{length, take, drop}
+use lib.ListN.{length, take}
 use lib.Seq.{length-take-le}
 use Rattle.meaning.specs.Design.{Spot, said, spotAt, separatorIn, cutAt, withoutReturn, cellsOf, cellsIn, letterOf, cellsSaid, lineSaid, endOf}
 use Rattle.meaning.specs.Design.{linesSaid, textSaid}

@@ -1,6 +1,6 @@
 -- `spelling::say_cells` meets its contract. Invariant: what the cells from `at` on say comes to what all of them come to. Measure: what is left of the
 -- line. Assumes nothing.
-use mathlib.Core.Path.{_≡_, refl, _∙_}
+use mathlib.Core.Path.{_≡_, refl}
 use Prim.Native.Nat.{_+_, _-_, _≤_}
 use native.Mathlib.Omega.{arith}
 use lib.ListN.{length}

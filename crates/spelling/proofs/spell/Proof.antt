@@ -1,6 +1,6 @@
 -- `spelling::spell` meets its contract. Invariant: what the lines from `at` on say comes to what the text says. Measure: what is left of the text.
 -- Assumes nothing.
-use mathlib.Core.Path.{_≡_, refl, _∙_}
+use mathlib.Core.Path.{_≡_, refl}
 use Prim.Native.Nat.{_+_, _-_, _<_, _≤_}
 use native.Mathlib.Omega.{arith}
 use lib.ListN.{length}
