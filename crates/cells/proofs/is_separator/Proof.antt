@@ -1,5 +1,6 @@
 -- `cells::is_separator` meets its contract. Assumes nothing.
 use mathlib.Core.Path.{sym, ap, ap₂}
+use mathlib.Core.Bool.{_||_}
 use mathlib.Core.Logic.{inl, inr, ⊎-elim}
 use borrow.Author.Tests.{ne-eqb}
 use Rattle.meaning.specs.Design.{isSeparator}
