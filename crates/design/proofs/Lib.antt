@@ -2,3 +2,4 @@ pub mod Tests
 pub mod Reached
 pub mod Ends
 pub mod Designed
+pub mod Once
