@@ -3,3 +3,4 @@ pub mod Reached
 pub mod Ends
 pub mod Designed
 pub mod Once
+pub mod Making

@@ -1,4 +1,4 @@
--- For every text one answer (02, #101): whatever two designs the contract permits are the same.
+-- For every text one answer: whatever two designs the contract permits are the same.
 --   fits-only       what is expected is known by the bytes that fit it
 --   first-only      there is one first thing that is wrong, and one thing was expected there
 --   design-once     so there is one answer, and one content of its matrix and its candidates

@@ -1,6 +1,6 @@
 // A design's text taken to the values of its case, or to the first thing that is wrong in it.
 ghost use mathlib.Core.Path.{_≡_};
-ghost use Rattle.design.specs.Drawn.{DesignIs};
+ghost use Rattle.design.specs.Drawn.{DesignIs, MadeIs};
 ghost use Rattle.scan.specs.declared.State.the-variants.{Letter};
 ghost use Rattle.design.specs.Expecting.{expectedAs, expectedOf};
 use casefile::Reading;
@@ -11,6 +11,7 @@ use meaning::MOST_CANDIDATES;
 use meaning::RADIX;
 use scan::Head;
 use scan::State;
+use writer::Written;
 
 // What may come at a spot of a text. An entry is below the prime.
 pub enum Expected {
@@ -47,6 +48,16 @@ pub struct Design {
     pub answer: Drawn,
     pub matrix: [u8; MATRIX_ROOM],
     pub candidates: [u8; CANDIDATE_ROOM],
+}
+
+// What was made of a text: what the writer answered for its values, or the first thing that is wrong.
+pub enum Made {
+    Case(Written),
+    Wrong {
+        line: usize,
+        cell: usize,
+        expected: Expected,
+    },
 }
 
 // The words that may come where a line begins.
@@ -135,6 +146,45 @@ pub fn read(text: &[u8]) -> Design
             answer: wrong,
             matrix,
             candidates,
+        },
+    }
+}
+
+// The case of a text at the front of `out`, its A record always written out; nothing is written where something is wrong.
+pub fn make(text: &[u8], out: &mut [u8]) -> Made
+    ensures { λ r. ⌜ MadeIs (now (text .entry)) (now (out .entry)) r (now (out .exit)) ⌝ }
+{
+    let design = read(text);
+    let matrix = design.matrix;
+    let candidates = design.candidates;
+    let answer = design.answer;
+    match answer {
+        Drawn::Case {
+            p,
+            n,
+            allowance,
+            count,
+        } => {
+            let entries = n * n;
+            let listed = count * n;
+            let wrote = writer::write(
+                p,
+                n,
+                &matrix[..entries],
+                &candidates[..listed],
+                allowance,
+                out,
+            );
+            Made::Case(wrote)
+        }
+        Drawn::Wrong {
+            line,
+            cell,
+            expected,
+        } => Made::Wrong {
+            line,
+            cell,
+            expected,
         },
     }
 }
