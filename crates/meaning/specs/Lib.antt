@@ -15,3 +15,4 @@ pub mod Line
 pub mod Sheet
 pub mod Print
 pub mod Design
+pub mod Mistake
