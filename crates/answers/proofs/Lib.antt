@@ -8,3 +8,4 @@ pub mod Sheet
 pub mod SheetOnce
 pub mod Listing
 pub mod Writing
+pub mod Design

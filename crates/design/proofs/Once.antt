@@ -1,6 +1,7 @@
 -- For every text one answer: whatever two designs the contract permits are the same.
 --   fits-only       what is expected is known by the bytes that fit it
 --   first-only      there is one first thing that is wrong, and one thing was expected there
+--   codeOf, code-back   the code's name for what was expected is known by what it means
 --   design-once     so there is one answer, and one content of its matrix and its candidates
 -- Assumes nothing.
 use mathlib.Core.Path.{_≡_, refl, sym, ap, subst, _∙_, fun-ext}
@@ -102,7 +103,7 @@ first-only {t} {p} {q} {e} {f} A B =
     )
 
 -- one answer: the code's cases are known by what they mean
-codeOf : meant.Expected → Expected
+unfoldable pub codeOf : meant.Expected → Expected
 codeOf word-field = expected.Field
 codeOf prime = expected.Prime
 codeOf size = expected.Size
@@ -114,7 +115,7 @@ codeOf word-row = expected.Row
 codeOf candidate-or-end = expected.CandidateOrEnd
 codeOf text-end = expected.TextEnd
 
-code-back : (x : Expected) → codeOf (expectedAs x) ≡ x
+pub code-back : (x : Expected) → codeOf (expectedAs x) ≡ x
 unfolding codeOf
 code-back expected.Field = refl
 code-back expected.Prime = refl

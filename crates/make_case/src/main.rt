@@ -10,14 +10,20 @@ use writer::Written;
 // The longest text that is read: some five times the longest that a spreadsheet saves of a design.
 const MOST_TEXT: usize = 262144;
 
+// The first k bytes; whether they were written.
+fn show_front(fd: i32, s: &[u8], k: usize) -> bool {
+    if s.len() < k {
+        return false;
+    }
+    io::write_all(fd, &s[..k])
+}
+
 // The buffer has room for every case, so the writer refuses nothing.
 fn show(wrote: Written, out: &[u8]) {
     match wrote {
         Written::Length(k) => {
-            if k <= out.len() {
-                if !io::write_all(STDOUT_FILENO, &out[..k]) {
-                    os::fail(b"make_case: standard output");
-                }
+            if !show_front(STDOUT_FILENO, out, k) {
+                os::fail(b"make_case: standard output");
             }
         }
         Written::Refused(_) => {}
@@ -27,10 +33,7 @@ fn show(wrote: Written, out: &[u8]) {
 fn tell(line: usize, cell: usize, expected: Expected) {
     let said = mistake::message(line, cell, expected);
     let bytes = said.bytes;
-    let k = said.len;
-    if k <= bytes.len() {
-        io::write_all(libc::STDERR_FILENO, &bytes[..k]);
-    }
+    show_front(libc::STDERR_FILENO, &bytes, said.len);
     io::write_all(libc::STDERR_FILENO, b"\n");
 }
 
@@ -57,7 +60,10 @@ fn main() {
     }
     let k = got.count;
     if MOST_TEXT < k {
-        io::write_all(libc::STDERR_FILENO, b"the text has more than 262144 bytes\n");
+        io::write_all(
+            libc::STDERR_FILENO,
+            b"the text has more than 262144 bytes\n",
+        );
         return;
     }
     make(&text[..k]);

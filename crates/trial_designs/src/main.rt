@@ -2,7 +2,6 @@
 // is wrong and what was expected there. Comment lines, which begin with `#`, and empty ones are printed as they are. At most 65,536 bytes are read.
 mod escaped;
 
-use design::Expected;
 use design::Made;
 use libc::STDIN_FILENO;
 use meaning::LONGEST_CASE;
@@ -11,28 +10,10 @@ use writer::Written;
 // Room for the longest text of a line.
 const LONGEST_TEXT: usize = 16384;
 
-// A number from 0 up to one below the bound.
-fn show_below(bound: u64) {
-    trial_lines::print(b"a number from 0 to");
-    if 0 < bound {
-        trial_lines::print_number(bound - 1);
-    }
-}
-
-fn show_expected(expected: Expected) {
-    match expected {
-        Expected::Field => trial_lines::print(b"the word field"),
-        Expected::Prime => trial_lines::print(b"a prime from 2 to 251"),
-        Expected::Size => trial_lines::print(b"a number from 1 to 64"),
-        Expected::Entry(p) => show_below(p as u64),
-        Expected::Allowance => show_below(16384),
-        Expected::LineEnd => trial_lines::print(b"the end of the line"),
-        Expected::AllowanceOrRow => trial_lines::print(b"the word allowance or the word row"),
-        Expected::Row => trial_lines::print(b"the word row"),
-        Expected::CandidateOrEnd => trial_lines::print(
-            b"the word candidate or the end of the text",
-        ),
-        Expected::TextEnd => trial_lines::print(b"the end of the text"),
+// The first k bytes.
+fn show_front(s: &[u8], k: usize) {
+    if k <= s.len() {
+        trial_lines::print(&s[..k]);
     }
 }
 
@@ -61,12 +42,10 @@ fn answer(text: &[u8]) {
             cell,
             expected,
         } => {
-            trial_lines::print(b" line");
-            trial_lines::print_number(line as u64);
-            trial_lines::print(b", cell");
-            trial_lines::print_number(cell as u64);
-            trial_lines::print(b": expected ");
-            show_expected(expected);
+            let said = mistake::message(line, cell, expected);
+            let bytes = said.bytes;
+            trial_lines::print(b" ");
+            show_front(&bytes, said.len);
         }
     }
 }

@@ -1,9 +1,12 @@
-// Takes sample cases through `sheet` and holds what it prints to their stored sheets. The arguments name the files in pairs, a case and its sheet, in the
-// folder where the program runs. For each pair a line is printed: the case's name, and whether its sheet is the stored one.
+// Takes samples through `sheet` and holds what it prints to their stored sheets. The arguments name the files in pairs, a case or a design's text and its
+// sheet, in the folder where the program runs. For each pair a line is printed: the sample's name, and whether its sheet is the stored one.
 ghost use Prim.Native.Nat.{_+_, _<_, _^_};
 ghost use Rattle.io.specs.Counts.{Counts};
+use design::Made;
 use input::Input;
+use meaning::LONGEST_CASE;
 use sheet::Sheeted;
+use writer::Written;
 
 // The bytes of a name that are read.
 const NAME: usize = 64;
@@ -53,20 +56,54 @@ fn judge(file: &[u8], stored: &[u8]) {
     }
 }
 
-// The case that argument i names against the sheet that the next one names. The buffers are longer than any case and any sheet, so that bytes behind
+// The same of the first k bytes.
+fn judge_front(file: &[u8], k: usize, stored: &[u8]) {
+    if k <= file.len() {
+        judge(&file[..k], stored);
+    }
+}
+
+// The same of the case that a design's text says.
+fn judge_text(text: &[u8], stored: &[u8]) {
+    let mut case = [0u8; LONGEST_CASE];
+    let made = design::make(text, &mut case);
+    match made {
+        Made::Case(wrote) => match wrote {
+            Written::Length(k) => judge_front(&case, k, stored),
+            Written::Refused(_) => trial_lines::print(b" refused\n"),
+        },
+        Made::Wrong { .. } => trial_lines::print(b" wrong\n"),
+    }
+}
+
+// Whether argument i names a design's text.
+fn is_text(i: usize) -> bool {
+    let mut name = [0u8; NAME];
+    let k = os::arg(i, &mut name);
+    if k < 4 {
+        return false;
+    }
+    check::same(&name[k - 4..k], b".csv")
+}
+
+// The sample that argument i names against the sheet that the next one names. The buffers are longer than any sample and any sheet, so that bytes behind
 // one are seen.
 fn try_pair(i: usize)
     requires { ⌜ i + 1 < 2 ^ 64 ⌝ }
 {
-    let mut file = [0u8; 16384];
+    let mut file = [0u8; 65536];
     let mut sheet = [0u8; 4096];
     show_name(i);
-    let case = load(i, &mut file);
+    let sample = load(i, &mut file);
     let stored = load(i + 1, &mut sheet);
-    let k = case.count;
+    let k = sample.count;
     let d = stored.count;
-    if case.whole && stored.whole {
-        judge(&file[..k], &sheet[..d]);
+    if sample.whole && stored.whole {
+        if is_text(i) {
+            judge_text(&file[..k], &sheet[..d]);
+        } else {
+            judge(&file[..k], &sheet[..d]);
+        }
     } else {
         trial_lines::print(b" unread\n");
     }
