@@ -1,5 +1,7 @@
 // The calls, as a customer makes them. Every call answers for all inputs: what is wrong is refused with its reason, in the order of the refusal table,
 // and a refused call changes no byte lent to it.
+#![tactic(auto)]
+
 ghost use Rattle.std.specs.Prelude.{◌≡◌, ◌≤◌, length};
 ghost use Rattle.meaning.specs.Bytes.{write};
 ghost use Rattle.meaning.specs.Calls.{InverseCall, OrderCall, ImageCall, StandCall, ChainCall, PeriodCall};
@@ -9,27 +11,27 @@ use period::Returns;
 use reasons::{Checked, Reason};
 
 // 0 has no inverse.
-#[derive(Drop)]
+#[derive(Clone, Copy)]
 pub enum Inverted {
     Inverse(u8),
     None,
     Refused(Reason),
 }
 
-#[derive(Drop)]
+#[derive(Clone, Copy)]
 pub enum Ordered {
     Degree(usize),
     Refused(Reason),
 }
 
-#[derive(Drop)]
+#[derive(Clone, Copy)]
 pub enum Imaged {
     Written,
     Refused(Reason),
 }
 
 // What a stand counts: the polynomial's degree, the rows taken, the products spent.
-#[derive(Drop)]
+#[derive(Clone, Copy)]
 pub struct Counts {
     pub degree: usize,
     pub taken: usize,
@@ -37,20 +39,20 @@ pub struct Counts {
 }
 
 // A short stand has its witness, counted from 1.
-#[derive(Drop)]
+#[derive(Clone, Copy)]
 pub enum Stood {
     Proved(Counts),
     Short(Counts, usize),
     Refused(Reason),
 }
 
-#[derive(Drop)]
+#[derive(Clone, Copy)]
 pub enum Chained {
     Stages(usize),
     Refused(Reason),
 }
 
-#[derive(Drop)]
+#[derive(Clone, Copy)]
 pub enum Perioded {
     Least(u32),
     Never,

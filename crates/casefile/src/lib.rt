@@ -1,4 +1,6 @@
 // A whole case file (01, "Case file, house layout"), taken to its values record by record.
+#![tactic(auto)]
+
 ghost use Rattle.std.specs.Prelude.{◌≡◌, ◌+◌, ◌≤◌, length};
 ghost use Rattle.std.proofs.Math.Seq.{paste};
 ghost use Rattle.casefile.specs.Gathered.{Noting, Noted};
@@ -11,7 +13,7 @@ use reader::{Step, Stepped};
 const DEFAULT_ALLOWANCE: u32 = 8192;
 
 // What the reader answers of a whole file.
-#[derive(Drop)]
+#[derive(Clone, Copy)]
 pub enum Reading {
     // The numbers of a well_formed case; count is the number of candidates.
     Case {
@@ -33,7 +35,7 @@ pub struct Contents {
 }
 
 // The numbers of the records so far: those of F and A, how many R and how many C there were.
-#[derive(Drop)]
+#[derive(Clone, Copy)]
 struct Numbers {
     p: u32,
     n: usize,

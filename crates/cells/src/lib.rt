@@ -1,4 +1,6 @@
 // A design's text (02, #101), read where it lies: its separator, its pieces, and the word or the number that a cell says.
+#![tactic(auto)]
+
 ghost use Rattle.std.specs.Prelude.{◌≡◌, ◌≤◌, length};
 ghost use Rattle.std.proofs.Math.Option.{some};
 ghost use Rattle.meaning.specs.Design.{is_separator, separator_in, is_digit, number_in, same, letter_of};

@@ -1,4 +1,6 @@
 // A design's text taken to the values of its case, or to the first thing that is wrong in it.
+#![tactic(auto)]
+
 ghost use Rattle.std.specs.Prelude.{◌≡◌};
 ghost use Rattle.design.specs.Drawn.{DesignIs, MadeIs};
 ghost use Rattle.scan.specs.declared.State.TheVariants.{Letter};
@@ -10,7 +12,7 @@ use scan::{Head, State};
 use writer::Written;
 
 // What may come at a spot of a text. An entry is below the prime.
-#[derive(Drop)]
+#[derive(Clone, Copy)]
 pub enum Expected {
     Field,
     Prime,
@@ -26,7 +28,7 @@ pub enum Expected {
 
 // What a text is: the numbers of its case, count the number of candidates; or the spot of the first thing that is wrong, line and cell counted from 1,
 // and what was expected there.
-#[derive(Drop)]
+#[derive(Clone, Copy)]
 pub enum Drawn {
     Case {
         p: u32,
@@ -50,7 +52,7 @@ pub struct Design {
 }
 
 // What was made of a text: what the writer answered for its values, or the first thing that is wrong.
-#[derive(Drop)]
+#[derive(Clone, Copy)]
 pub enum Made {
     Case(Written),
     Wrong {

@@ -1,5 +1,7 @@
 // What the programs share: a descriptor is read to its end, and a read that fails is told from an input that is over. (`io::read_full` answers a short
 // count for both.) Which bytes are read no contract can say.
+#![tactic(auto)]
+
 ghost use Rattle.io.specs.Counts.{IsPrefixLen};
 
 // How many bytes lie at the front of the buffer; `whole` says that no read failed.

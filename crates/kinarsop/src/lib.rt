@@ -1,6 +1,8 @@
 // The face for C and for Rust: each call of the library under a plain name, with numbers, slices (a pointer and a length) and one struct for each
 // answer. The number of `refusal` is 0 where the call is answered, else that of its refusal, with the row and the column of a bad entry, and then all
 // else is 0. What a C programmer has to know is in include/kinarsop.h; nothing holds that file to this one but the trials from outside.
+#![tactic(auto)]
+
 ghost use Rattle.std.specs.Prelude.{◌≡◌, [], ◌∷◌};
 ghost use Rattle.meaning.specs.Calls.{given, InverseCall, OrderCall, ImageCall, StandCall, ChainCall, PeriodCall};
 ghost use Rattle.meaning.specs.Sheet.{SheetCall};

@@ -1,5 +1,7 @@
 // Reads a design's text on standard input, as spreadsheets save it, and writes its case file. What is wrong in the text is said in one line on standard
 // error, and then nothing is written. What the text says, and what is said of it, is the library's business; this program reads, calls and writes.
+#![tactic(auto)]
+
 use design::{Expected, Made};
 use libc::{STDIN_FILENO, STDOUT_FILENO};
 use meaning::LONGEST_CASE;

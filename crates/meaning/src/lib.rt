@@ -1,5 +1,6 @@
 // Document 01 in definitions, on bytes: what a reader must believe. They are in specs/. Here are the numbers that bound the work, for the code that
 // has to keep to them: no function.
+#![tactic(auto)]
 
 // The largest prime that is covered.
 pub const LARGEST_PRIME: u32 = 251;

@@ -1,4 +1,6 @@
 // What is said of the first thing that is wrong in a design's text.
+#![tactic(auto)]
+
 ghost use Rattle.std.specs.Prelude.{◌≡◌, ◌-◌, ◌^◌, ◌<◌, ◌≤◌};
 ghost use Rattle.meaning.specs.Design.{spot_at};
 ghost use Rattle.meaning.specs.Mistake.{up_to, expected_words, mistake};

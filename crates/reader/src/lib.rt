@@ -1,5 +1,7 @@
 // The records of a case file, one after another (01, "Case file, house layout"): "The reader keeps the case bytes and its place in them and goes record by
 // record; the entries it hands back are that very stretch of the caller's bytes."
+#![tactic(auto)]
+
 ghost use Rattle.std.specs.Prelude.{◌≡◌, ◌+◌, ◌≤◌, length, drop};
 ghost use Rattle.std.proofs.Math.Seq.{slice};
 ghost use Rattle.scan.specs.Machine.{Scans};
@@ -10,7 +12,7 @@ ghost use Rattle.reader.specs.Look.{field_at, body_at, record_at};
 use scan::{State, scan};
 
 // What a step says. The entries of an R or a C record are got by `entries`.
-#[derive(Drop)]
+#[derive(Clone, Copy)]
 pub enum Step {
     // The F record: p and n.
     Field { p: u32, n: usize },
@@ -28,13 +30,13 @@ pub enum Step {
 }
 
 // A place between two records of a case; made by `front` and by steps alone.
-#[derive(Drop)]
+#[derive(Clone, Copy)]
 pub struct Cursor {
     at: usize,
 }
 
 // What a step said, where it was made, and the place for the next one: behind the record that is handed out, else the same place.
-#[derive(Drop)]
+#[derive(Clone, Copy)]
 pub struct Stepped {
     pub step: Step,
     pub from: Cursor,
@@ -42,7 +44,7 @@ pub struct Stepped {
 }
 
 // What begins at an offset, by its letter, and the offset behind it; or nothing.
-#[derive(Drop)]
+#[derive(Clone, Copy)]
 enum Ahead {
     Record { step: Step, next: usize },
     Nothing,

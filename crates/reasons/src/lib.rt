@@ -1,4 +1,6 @@
 // Why a call is refused: each test of the refusal table by itself, and a reason as the documents number it.
+#![tactic(auto)]
+
 ghost use Rattle.std.specs.Prelude.{◌≡◌, ◌<◌, ◌≤◌};
 ghost use Rattle.meaning.specs.Refusal.{refuse, refuse_at, no_prime, no_size, no_matrix, no_rows, no_vector, no_polynomial, bad_entry, bad_coefficient};
 ghost use Rattle.meaning.specs.Refusal.{bad_scalar, no_allowance, too_short, alone as numbered};
@@ -10,7 +12,7 @@ use rows::Found;
 
 // Why a call is refused, in the table's order. An entry that is p or more comes with its row and its column, counted from 1; a coefficient with its
 // place, the lowest being 1, and a scalar is like the one coefficient of a polynomial.
-#[derive(Drop)]
+#[derive(Clone, Copy)]
 pub enum Reason {
     NoPrime,
     NoSize,
@@ -25,7 +27,7 @@ pub enum Reason {
 }
 
 // What a test, or a list of tests, gives.
-#[derive(Drop)]
+#[derive(Clone, Copy)]
 pub enum Checked {
     Refused(Reason),
     Passed,
@@ -33,7 +35,7 @@ pub enum Checked {
 
 // A reason as the documents number it: `row` and `column` are 0 but for a bad entry. It is part of every answer of the face.
 #[repr(C)]
-#[derive(Drop)]
+#[derive(Clone, Copy)]
 pub struct Numbers {
     pub number: u8,
     pub row: usize,
@@ -41,7 +43,7 @@ pub struct Numbers {
 }
 
 // The row and the column of a bad entry, counted from 1.
-#[derive(Drop)]
+#[derive(Clone, Copy)]
 enum BadCell {
     At(usize, usize),
     Nowhere,

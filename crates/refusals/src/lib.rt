@@ -1,4 +1,6 @@
 // The refusal table: for each call the reason of the first test that applies, in the table's order.
+#![tactic(auto)]
+
 ghost use Rattle.std.specs.Prelude.{◌≡◌, [], ◌∷◌, ◌+◌, ◌*◌, ◌≤◌};
 ghost use Rattle.meaning.specs.Bounds.{widest, most_candidates};
 ghost use Rattle.meaning.specs.Refusal.{refuse, refuse_at, no_prime, no_size, no_matrix, no_rows, bad_entry, first};

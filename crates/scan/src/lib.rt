@@ -2,6 +2,8 @@
 //
 // A scan goes over the bytes from the front and keeps what the rest of the file depends on (`State`). Every state but `Dead` can be continued to a
 // well_formed case, so the first byte that leads to `Dead` stands at the place of refusal 8.
+#![tactic(auto)]
+
 ghost use Rattle.std.specs.Prelude.{◌≡◌, ◌+◌, ◌<◌, ◌≤◌};
 ghost use Rattle.scalar.specs.Scalar.{word_bound};
 ghost use Rattle.scan.specs.Machine.{stale, opened, sized, letter, entered, after, Scans, ScanIs};
@@ -18,7 +20,7 @@ const MOST_LISTED: u32 = meaning::MOST_CANDIDATES as u32;
 
 // What the scan keeps behind F. `count` is of rows and candidates together, that of the record under way included; `fresh` says that an A record may
 // still come.
-#[derive(Drop)]
+#[derive(Clone, Copy)]
 pub struct Head {
     pub p: u8,
     pub n: u8,
@@ -27,7 +29,7 @@ pub struct Head {
 }
 
 // What the rest of a file depends on, between two bytes.
-#[derive(Drop)]
+#[derive(Clone, Copy)]
 pub enum State {
     // The mark of F is next, its letter, p, n.
     Start,
@@ -45,7 +47,7 @@ pub enum State {
 }
 
 // A state, and the offset where it was reached.
-#[derive(Drop)]
+#[derive(Clone, Copy)]
 pub struct Scanned {
     pub state: State,
     pub at: usize,

@@ -1,4 +1,6 @@
 // The sheet of a case: the lines that 01 lists for the program `stand`, laid down from what the calls answer.
+#![tactic(auto)]
+
 ghost use Rattle.std.specs.Prelude.{[], ◌∷◌, ◌++◌, ◌+◌, ◌≤◌, length};
 ghost use Rattle.meaning.specs.Ascii.{ascii};
 ghost use Rattle.meaning.specs.Bounds.{Sound, SoundRows};
@@ -18,7 +20,7 @@ use text::Text;
 pub const ROOM: usize = text::ROOM;
 
 // What the call answers: how many bytes the sheet is, or the refusal.
-#[derive(Drop)]
+#[derive(Clone, Copy)]
 pub enum Sheeted {
     Length(usize),
     Refused(Reason),

@@ -1,5 +1,7 @@
 // How kept rows lie in memory: said in `specs`, with its laws in `proofs`. Here are the numbers, for the code that reads slots (`echelon`,
 // `coordinates`) and writes them (`store`).
+#![tactic(auto)]
+
 
 use meaning::WIDEST;
 

@@ -1,5 +1,7 @@
 // What a design's text says, gone over byte by byte by the scan of case files: the bytes go to a buffer as long as they begin a case, and the spot of the
 // first that does not is kept.
+#![tactic(auto)]
+
 ghost use Rattle.std.specs.Prelude.{◌≡◌, ◌∷◌, [], map, ◌+◌, length};
 ghost use Rattle.std.proofs.Math.Option.{some};
 ghost use Rattle.meaning.specs.Design.{said, spot_at, halves_in, byte_in, cell_bytes, cells_in, cells_said, line_said, end_of, text_said};
@@ -11,7 +13,7 @@ use scan::State;
 
 // How far it has come. `state` is what the scan keeps behind the bytes that begin a case, and `count` how many of them are in the buffer; behind a byte
 // that begins none, `wrong` says so, and line and cell are its spot.
-#[derive(Drop)]
+#[derive(Clone, Copy)]
 pub struct Trace {
     pub state: State,
     pub count: usize,
@@ -91,7 +93,7 @@ fn say_cell(t: Trace, letter: u8, w: &[u8], line: usize, cell: usize, out: &mut 
 }
 
 // How far it has come with a line: behind its last cell, or where the line before ended.
-#[derive(Drop)]
+#[derive(Clone, Copy)]
 pub struct Lined {
     pub trace: Trace,
     pub line: usize,

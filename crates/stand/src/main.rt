@@ -1,5 +1,7 @@
 // Reads one case file on standard input and writes its sheet. What the sheet says is the library's business; this program reads, calls and writes.
 // The language has no exit status: what fails is said on standard error, and then nothing or not all is written.
+#![tactic(auto)]
+
 use libc::{STDIN_FILENO, STDOUT_FILENO};
 use meaning::LONGEST_CASE;
 use sheet::Sheeted;

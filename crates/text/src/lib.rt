@@ -1,5 +1,7 @@
 // A text that grows, by value: every function hands a new text back, with more behind what it was given. A line is a word, numbers, each behind a
 // space, and a newline.
+#![tactic(auto)]
+
 ghost use Rattle.std.specs.Prelude.{[], ◌∷◌};
 ghost use Rattle.meaning.specs.Line.{decimal, spaced};
 ghost use Rattle.text.specs.Text.{HasRoom, Appended, IsText, line_of};

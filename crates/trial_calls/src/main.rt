@@ -1,5 +1,7 @@
 // Makes the call that each line of standard input names and prints the line's word, the answer, and every lent buffer whole, as it is after the
 // call. Comment lines, which begin with `#`, and empty ones are printed as they are. At most 131,072 bytes are read.
+#![tactic(auto)]
+
 mod chain;
 mod image;
 mod inverse;

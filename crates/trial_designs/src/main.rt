@@ -1,5 +1,7 @@
 // Makes the case of the text that each line of standard input has and prints the line's word, then the case's length and bytes, or the first thing that
 // is wrong and what was expected there. Comment lines, which begin with `#`, and empty ones are printed as they are. At most 65,536 bytes are read.
+#![tactic(auto)]
+
 mod escaped;
 
 use design::Made;

@@ -1,6 +1,8 @@
 // Test lines: a word, then decimal numbers in groups. The groups are separated by `|`, the first one follows the word, and `k*x` stands for k
 // numbers x. A number is a run of digits and is read modulo 2^32; whatever else stands between two numbers is passed over. The contracts say
 // what an index needs; what a line means is shown by running the programs over it.
+#![tactic(auto)]
+
 ghost use Rattle.std.specs.Prelude.{◌+◌, ◌<◌, ◌≤◌, length};
 ghost use Rattle.io.specs.Counts.{IsPrefixLen};
 
@@ -82,7 +84,7 @@ fn digit(s: &[u8], at: usize) -> usize
 }
 
 // A number, how often it stands there, and the place after it.
-#[derive(Drop)]
+#[derive(Clone, Copy)]
 struct Numeral {
     count: u32,
     value: u32,

@@ -2,6 +2,8 @@
 // Standard input has a letter, p, n, the number of calls (two bytes, the low one first) and the number of rows of a list, then the n·n entries of the
 // machine and those of the list, row after row. The letter says which call is made: `s` the stand with the list, `o` the order of the list's one row,
 // `c` the chain with the list, `t` the period. Of a polynomial all places of the buffer are printed. Without calls the program only reads.
+#![tactic(auto)]
+
 ghost use Rattle.io.specs.Counts.{IsPrefixLen};
 
 use calls::{Chained, Ordered, Perioded, Stood};

@@ -1,5 +1,7 @@
 // Calls the function that each line of standard input names and prints the line's word and the answer, or `refused` where the function's
 // `requires` does not hold. Comment lines, which begin with `#`, and empty ones are printed as they are. At most 65,536 bytes are read.
+#![tactic(auto)]
+
 mod polynomials;
 mod scalars;
 mod vectors;

@@ -1,5 +1,7 @@
 // Asks of the case reader what each line of standard input names and prints the line's word and the answer. Comment lines, which begin with `#`,
 // and empty ones are printed as they are. At most 65,536 bytes are read.
+#![tactic(auto)]
+
 mod reading;
 mod stepping;
 

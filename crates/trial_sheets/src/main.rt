@@ -1,5 +1,7 @@
 // Takes samples through `sheet` and holds what it prints to their stored sheets. The arguments name the files in pairs, a case or a design's text and its
 // sheet, in the folder where the program runs. For each pair a line is printed: the sample's name, and whether its sheet is the stored one.
+#![tactic(auto)]
+
 ghost use Rattle.std.specs.Prelude.{◌+◌, ◌<◌, ◌^◌};
 ghost use Rattle.io.specs.Counts.{IsPrefixLen};
 

@@ -1,4 +1,6 @@
 // Laying down a case (02, #101): F, A, the rows, the candidates and E, one behind another at the front of a buffer.
+#![tactic(auto)]
+
 ghost use Rattle.std.specs.Prelude.{◌∷◌, ◌+◌, ◌<◌, ◌≤◌, length};
 ghost use Rattle.meaning.specs.Bytes.{byte_rows};
 ghost use Rattle.meaning.specs.Writing.{WriteCall};
@@ -9,7 +11,7 @@ use meaning::{MARK, RADIX};
 use reasons::{Checked, Reason};
 
 // The length of the case.
-#[derive(Drop)]
+#[derive(Clone, Copy)]
 pub enum Written {
     Length(usize),
     Refused(Reason),
