@@ -1,5 +1,4 @@
 -- What a test says of a reason.
---   by_reason      the numbers of a reason that is known
 --   applies        a test that does not fail applies
 --   placed, nowhere   the cell of the first bad entry, from its place; there is none
 --   coefficient_placed   the same of coefficients
@@ -15,12 +14,6 @@ use lib.ListN.{length}
 use Rattle.meaning.specs.Entry.{cell_at, first_bad, bad_cell}
 use Rattle.meaning.specs.Refusal.{at, refuse_at, bad_coefficient}
 use Rattle.meaning.proofs.Entry.{first_bad_place, first_bad_none, bad_cell_at, small_bad_cell}
-use Rattle.reasons.specs.Reasons.{as_refusal, numbers_of}
-use Rattle.reasons.specs.declared.Reason.{Reason}
-
--- the numbers of a reason that is known
-pub by_reason : {x y : Reason} → x ≡ y → numbers_of (as_refusal y) ≡ numbers_of (as_refusal x)
-by_reason e = sym (ap (λ r. numbers_of (as_refusal r)) e)
 
 pub applies : (b : Bool) → ¬ (b ≡ false) → b ≡ true
 applies true h = refl

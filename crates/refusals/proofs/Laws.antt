@@ -4,7 +4,7 @@
 --   earlier_join   so of what two lists gave
 --   two_buffers    test 6 of one buffer and then of another
 --   long_by        test 6 of a buffer, for what it is to hold
---   refused_on, passed   a list that was run by its front: what that refused is refused, and where it passed the rest decides
+--   refused_on     a list that was run by its front: what that refused is refused
 -- Assumes nothing.
 use mathlib.Core.Path.{◌≡◌, refl, sym, ap, ap₂, ◌∙◌}
 use mathlib.Core.Bool.{Bool, true, false, ◌||◌}
@@ -13,10 +13,6 @@ use mathlib.Core.Option.{Option, none, some}
 use Prim.Native.Nat.{ℕ}
 use Rattle.meaning.specs.Refusal.{Refusal, refuse, too_short, first}
 use Rattle.meaning.proofs.Refusal.{first_front}
-use Rattle.reasons.specs.Reasons.{as_refusal, checked_of}
-use Rattle.reasons.specs.declared.Reason.{Reason}
-use Rattle.reasons.specs.declared.Checked.{Checked}
-use Rattle.reasons.specs.declared.Checked.TheVariants as checked
 
 first_one : (t : Option Refusal) → t ≡ first (t ∷ [])
 unfolding first
@@ -49,10 +45,6 @@ two_buffers a b e f g = earlier_join (_ ∷ []) (_ ∷ []) e (one f) (one g) ∙
 pub long_by : {x : Option Refusal} {j k : ℕ} (out : List ℕ) → j ≡ k → x ≡ refuse 6 (too_short j out) → x ≡ refuse 6 (too_short k out)
 long_by out e f = f ∙ ap (λ i. refuse 6 (too_short i out)) e
 
--- a list that was run by its front: what that refused, and what the rest says where it passed
-pub refused_on : {x : Checked} {r : Reason} (ts us : List (Option Refusal)) → checked_of x ≡ first ts → x ≡ checked.Refused r
-    → some (as_refusal r) ≡ first (ts ++ us)
-refused_on ts us e f = sym (first_front ts us (sym e ∙ ap checked_of f))
-
-pub passed : {x : Checked} (ts : List (Option Refusal)) → checked_of x ≡ first ts → x ≡ checked.Passed → first ts ≡ none
-passed ts e f = sym e ∙ ap checked_of f
+-- a list that was run by its front: what that refused is refused
+pub refused_on : {q : Refusal} (ts us : List (Option Refusal)) → some q ≡ first ts → some q ≡ first (ts ++ us)
+refused_on ts us e = sym (first_front ts us (sym e))

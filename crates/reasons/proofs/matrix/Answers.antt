@@ -6,21 +6,17 @@ use native.Mathlib.Omega.{arith}
 use Rattle.meaning.proofs.Refusal.{no_matrix_false, matrix_no_matrix, refuse_here, refuse_none}
 use Rattle.meaning.specs.Bounds.{widest}
 use Rattle.reasons.proofs.Laws.{applies}
-use Rattle.reasons.proofs.matrix.Statement.{statement}
-use Rattle.reasons.proofs.matrix.Tie as tie
+use Rattle.reasons.proofs.matrix.Goals as goal
 
-mul-if1 : tie.Need-overflow-mul-if1
-mul-if1 c =
+pub overflow_mul-n : goal.overflow_mul-n
+overflow_mul-n c =
     let n = c.args.n in
     let h : n ≤ widest = omega arith in
     let k : n * n ≤ widest * widest = mul-le-mul h h in
     omega arith
 
-returns : tie.Need-returns
-returns c = sym (refuse_here (applies _ (λ q. c.if1.true (no_matrix_false _ _ q))))
+pub returns-then-m-n : goal.returns-then-m-n
+returns-then-m-n c = sym (refuse_here (applies _ (λ q. c.if-m-n.true (no_matrix_false _ _ q))))
 
-returns-2 : tie.Need-returns-2
-returns-2 c = sym (refuse_none 3 (matrix_no_matrix _ _ c.if1.false))
-
-pub matrix_spec : {M : Type 1} → statement M
-matrix_spec = tie.close (tie.spec mul-if1 returns returns-2)
+pub returns : goal.returns
+returns c = sym (refuse_none 3 (matrix_no_matrix _ _ c.if-m-n.false))

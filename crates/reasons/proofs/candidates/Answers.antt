@@ -6,30 +6,19 @@ use lib.ListN.{length}
 use Rattle.meaning.proofs.Refusal.{no_rows_false, rows_no_rows, rows_over, rows_whole, refuse_here, refuse_none}
 use Rattle.meaning.specs.Bounds.{most_candidates}
 use Rattle.reasons.proofs.Laws.{applies}
-use borrow.Author.Rules.{rules}
-use Rattle.reasons.proofs.candidates.Statement.{statement}
-use Rattle.reasons.proofs.candidates.Tie as tie
+use Rattle.reasons.proofs.candidates.Goals as goal
 
-rem-if1 : tie.Need-nonzero-rem-if1
-rem-if1 c = search rules
-
-returns : tie.Need-returns
-returns c =
-    let x = c.before.args in
+pub returns-then-cs-n-ne0 : goal.returns-then-cs-n-ne0
+returns-then-cs-n-ne0 c =
+    let x = c.args in
     sym (refuse_here (applies _ (λ q. omega (arith, rows_over x.n x.cs.now (omega arith) q))))
 
-div-if2 : tie.Need-nonzero-div-if2
-div-if2 c = search rules
+pub returns-then-cs-n-gt-MOST_CANDIDATES : goal.returns-then-cs-n-gt-MOST_CANDIDATES
+returns-then-cs-n-gt-MOST_CANDIDATES c = sym (refuse_here (applies _ (λ q. omega (arith, no_rows_false _ _ (omega arith) q))))
 
-returns-2 : tie.Need-returns-2
-returns-2 c = sym (refuse_here (applies _ (λ q. omega (arith, no_rows_false _ _ (omega arith) q))))
-
-returns-3 : tie.Need-returns-3
-returns-3 c =
-    let x = c.before.before.args in
+pub returns : goal.returns
+returns c =
+    let x = c.args in
     let over : length x.cs.now % x.n ≡ 0 = omega arith in
     let few : length x.cs.now / x.n ≤ most_candidates = omega arith in
     sym (refuse_none 4 (rows_no_rows x.n x.cs.now (omega arith) _ (rows_whole x.n x.cs.now over) few))
-
-pub candidates_spec : {M : Type 1} → statement M
-candidates_spec = tie.close (tie.spec rem-if1 returns div-if2 returns-2 returns-3)

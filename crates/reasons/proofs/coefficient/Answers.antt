@@ -1,0 +1,20 @@
+-- `reasons::coefficient` meets its contract: the cell is that of the place. Assumes nothing.
+use mathlib.Core.Path.{sym, ap}
+use mathlib.Core.Option.{map}
+use native.Mathlib.Omega.{arith}
+use Rattle.meaning.specs.Refusal.{at, refuse_at, bad_coefficient}
+use Rattle.meaning.proofs.Entry.{first_bad_place}
+use Rattle.reasons.proofs.Laws.{nowhere, coefficient_placed}
+use Rattle.reasons.proofs.coefficient.Goals as goal
+
+pub overflow_add-result : goal.overflow_add-result
+overflow_add-result c =
+    let x = c.args in
+    omega (arith, (first_bad_place x.p x.f.now c.in-At.i (sym c.in-At.ensures)).within)
+
+pub returns-in-At : goal.returns-in-At
+returns-in-At c = coefficient_placed _ _ (sym c.in-At.ensures)
+
+pub returns-in-Nothing : goal.returns-in-Nothing
+unfolding refuse_at bad_coefficient
+returns-in-Nothing c = ap (map (λ k. at 11 k.row k.column)) (nowhere 0 _ _ _ (sym c.in-Nothing.ensures))
