@@ -168,6 +168,7 @@ case_fits c w xs ys x e =
 -- and no other list of records does
 pub over_takes : {h : Head} {z : State} {xs : List Record} → Takes (Over h) xs z → xs ≡ []
 over_takes stays = refl
+over_takes {h = h} {z = z} (takes {y = y} {xs = xs} x9 _) = elim x9 [ ]
 
 record CandidatePart (p n m : ℕ) (xs : List Record) : Type 0 where
   listed : List (List ℕ)

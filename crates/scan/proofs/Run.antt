@@ -4,17 +4,15 @@
 --   only_alive       what is alive behind a test has passed it
 --   viable_alive, viable_after   a viable state is alive, and so is what follows it unless it is Dead
 --   entries_run, entries_small   as many entries as are to come, each below the bound, lead behind the record, and nothing else does
---   after_as, start_mark, start_dead, opening_letter, opening_dead, modulus_prime, modulus_dead, body_mark, body_dead   the state behind one more byte, as
---                    the code tests it
 -- Assumes nothing.
-use mathlib.Core.Path.{◌≡◌, refl, sym, ap, subst, ◌∙◌}
+use mathlib.Core.Path.{◌≡◌, refl, ap, subst, ◌∙◌}
 use mathlib.Core.Bool.{Bool, true, false}
 use mathlib.Core.List.{List, [], ◌∷◌, ◌++◌}
 use Prim.Native.Nat.{ℕ, ◌+◌, ◌-◌, ◌<◌, ◌≤◌}
 use native.Mathlib.Omega.{arith}
 use lib.ListN.{length}
 use lib.Dec.{leb, ltb, eqb, lit<, lit≤}
-use borrow.Author.Tests.{leb-true, leb-false, ltb-true, lt-ltb, le-leb, lt-leb, eq-eqb, ne_eqb}
+use borrow.Author.Tests.{leb-true, leb-false, ltb-true, lt-ltb, le-leb, lt-leb}
 use Rattle.meaning.specs.Bytes.{Small}
 use Rattle.meaning.specs.Bounds.{most_candidates, widest}
 use Rattle.meaning.specs.Refusal.{is_prime}
@@ -115,39 +113,3 @@ entries_small h bound left (x ∷ y ∷ l) e a =
     let b = entered_below h bound left x (y ∷ l) a in
     let i : Alive (run (Entries h bound (left - 1)) (y ∷ l)) = subst (λ q. Alive (run q (y ∷ l))) (entered_more h bound left x b (omega arith)) a in
     (b, entries_small h bound (left - 1) (y ∷ l) (omega arith) i)
-
--- the state behind one more byte, as the code tests it
-pub after_as : {q z r : State} (b : ℕ) → q ≡ z → r ≡ after z b → r ≡ after q b
-after_as b e h = h ∙ ap (λ x. after x b) (sym e)
-
-pub start_mark : {q : State} {b : ℕ} → q ≡ Start → b ≡ 255 → Opening ≡ after q b
-unfolding after
-start_mark {b = b} e h = after_as b e (rw (eq-eqb b 255 h))
-
-pub start_dead : {q : State} {b : ℕ} → q ≡ Start → (b ≡ 255 → ⊥) → Dead ≡ after q b
-unfolding after
-start_dead {b = b} e h = after_as b e (rw (ne_eqb b 255 h))
-
-pub opening_letter : {q : State} {b : ℕ} → q ≡ Opening → b ≡ 70 → Modulus ≡ after q b
-unfolding after
-opening_letter {b = b} e h = after_as b e (rw (eq-eqb b 70 h))
-
-pub opening_dead : {q : State} {b : ℕ} → q ≡ Opening → (b ≡ 70 → ⊥) → Dead ≡ after q b
-unfolding after
-opening_dead {b = b} e h = after_as b e (rw (ne_eqb b 70 h))
-
-pub modulus_prime : {q : State} {t : Bool} (b : ℕ) → q ≡ Modulus → t ≡ is_prime b → t ≡ true → Size b ≡ after q b
-unfolding after
-modulus_prime b e i h = after_as b e (rw (sym i ∙ h))
-
-pub modulus_dead : {q : State} {t : Bool} (b : ℕ) → q ≡ Modulus → t ≡ is_prime b → t ≡ false → Dead ≡ after q b
-unfolding after
-modulus_dead b e i h = after_as b e (rw (sym i ∙ h))
-
-pub body_mark : {q : State} {h : Head} {b : ℕ} → q ≡ Body h → b ≡ 255 → Letter h ≡ after q b
-unfolding after
-body_mark {b = b} e i = after_as b e (rw (eq-eqb b 255 i))
-
-pub body_dead : {q : State} {h : Head} {b : ℕ} → q ≡ Body h → (b ≡ 255 → ⊥) → Dead ≡ after q b
-unfolding after
-body_dead {b = b} e i = after_as b e (rw (ne_eqb b 255 i))

@@ -66,6 +66,7 @@ fn stale_head(h: Head, count: u32) -> Head
 }
 
 // The state behind n, the last byte of the F record.
+#[tactic(auto, unfolding(crate::specs::Machine::sized))]
 fn size(p: u8, n: u8) -> State
     ensures { result ≡ sized p n }
 {
@@ -96,6 +97,7 @@ fn open_entries(h: Head) -> State
 }
 
 // The state behind the letter of a record that follows F.
+#[tactic(auto, unfolding(crate::specs::Machine::letter))]
 fn begin(h: Head, b: u8) -> State
     ensures { result ≡ letter h b }
 {
@@ -134,6 +136,7 @@ fn begin(h: Head, b: u8) -> State
 }
 
 // The state behind an entry of a record that follows F.
+#[tactic(auto, unfolding(crate::specs::Machine::entered))]
 fn enter(h: Head, bound: u8, left: u8, b: u8) -> State
     ensures { result ≡ entered h bound left b }
 {
@@ -151,6 +154,7 @@ fn enter(h: Head, bound: u8, left: u8, b: u8) -> State
 }
 
 // The state behind one more byte.
+#[tactic(auto, unfolding(crate::specs::Machine::after))]
 pub fn behind(q: State, b: u8) -> State
     ensures { result ≡ after q b }
 {
