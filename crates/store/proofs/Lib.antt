@@ -1,4 +1,2 @@
 pub mod Put
 pub mod Stored
-pub mod Places
-pub mod Lending
