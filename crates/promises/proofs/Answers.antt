@@ -108,11 +108,11 @@ answer_reordered {p} {n} {m} {new = new} {new' = new'} {s = s} π A B h =
     (same, D.polynomial ∙ ap (bytes (suc n)) c ∙ sym C.polynomial, D.image ∙ ap (bytes n) w ∙ sym C.image, all)
 
 -- third sentence: a run of calls is a run
-call_run : {p n : ℕ} {m cs ds : List ℕ} {a k : ℕ} {r s : Outcome} → CallRun p n m a cs r k ds s → Run p n m a cs r k ds s
+call_run : {p n : ℕ} {m cs : List ℕ} {a : ℕ} {r : Outcome} {k : ℕ} {ds : List ℕ} {s : Outcome} → CallRun p n m a cs r k ds s → Run p n m a cs r k ds s
 call_run (first old new A) = start _ (answered A).stand
 call_run (again old new R q A) = more _ (call_run R) q (answered A).stand
 
-call_sound : {p n : ℕ} {m cs ds : List ℕ} {a k : ℕ} {r s : Outcome} → CallRun p n m a cs r k ds s → Sound p n m × SoundRows p n cs
+call_sound : {p n : ℕ} {m cs : List ℕ} {a : ℕ} {r : Outcome} {k : ℕ} {ds : List ℕ} {s : Outcome} → CallRun p n m a cs r k ds s → Sound p n m × SoundRows p n cs
 call_sound (first old new A) = ((answered A).sound, (answered A).list)
 call_sound (again old new R q A) = call_sound R
 
@@ -155,7 +155,7 @@ call_room (first old new A) = (old, answer_room A)
 call_room (again old new R q A) = (old, answer_room A)
 
 -- a run, and one from its last call on, are one run
-call_join : {p n : ℕ} {m cs ds es : List ℕ} {a k j : ℕ} {r s t : Outcome} → CallRun p n m a cs r k ds s → CallRun p n m a ds s j es t
+call_join : {p n : ℕ} {m cs ds : List ℕ} {a k : ℕ} {r s : Outcome} {j : ℕ} {es : List ℕ} {t : Outcome} → CallRun p n m a cs r k ds s → CallRun p n m a ds s j es t
     → CallRun p n m a cs r (k + j) es t
 call_join R (first old new A) = simp unary_clauses R
 call_join R (again old new T q A) = simp unary_clauses (again old new (call_join R T) q A)

@@ -137,6 +137,8 @@ behind_not w l s c y z n st o h = last o (stages_past w l s st (chain_line n st 
     last o (inl h) = other_word_lem "CHAIN" w c h.0
     last none (inr (inl h)) = other_word_lem "PERIOD none" w z h.0
     last (some t) (inr (inl h)) = other_word_lem "PERIOD" w y h.0
+    last none (inr (inr x)) = elim x [ ]
+    last (some t) (inr (inr x)) = elim x [ ]
 
 -- so a MINPOLY line is that of a proved stand, a DIVISOR line that of a short one, with its WITNESS line behind it, and a REFUSED line that of no case
 abbrev printed_lines : {p : ℕ} → ℕ → (S p → S p) → Standing → Outcome → Poly p → List (WithDegree p) → Option ℕ → List Line
@@ -180,6 +182,7 @@ refused_alone xs k q w l h = alone (subst (λ ys. Has ys w l) q h)
   where
     alone : Has (refused_line k ∷ []) w l → ("REFUSED" ≡ w) × (k ∷ [] ≡ l)
     alone (inl a) = a
+    alone (inr x) = elim x [ ]
 
 minimal_in : {p n : ℕ} {m cs : List ℕ} {a : ℕ} {xs : List Line} → SheetLines p n m cs a xs → (l : List ℕ) → Has xs "MINPOLY" l → MinimalIn p n m l
 minimal_in {p} {n} {m} {cs} {a} L l h =
