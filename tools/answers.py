@@ -188,13 +188,18 @@ class Function:
             k = norm(m.group(1))
             return ".type_inv." + typed[k] if k in typed else m.group(0)
 
-        for f in self.place_fns:
-            text = re.sub(r"\(" + re.escape(f) + r" ([\w']+)((?:\.before)*)\)", r"\1", text)
-            text = re.sub(r"(?<![\w-])" + re.escape(f) + r" ([\w']+)((?:\.before)*)(?= in\b)", r"\1", text)
         text = re.sub(r"\.((?:shared_|shared-)?slice[_-]known\d*)\.given", known, text)
         text = re.sub(r"\.before(?![\w-])", "", text)
-        for f in self.place_fns:
-            text = re.sub(r"\(" + re.escape(f) + r" ([\w']+)\)", r"\1", text)
+        def unplace(text):
+            while True:
+                was = text
+                for f in self.place_fns:
+                    text = re.sub(r"\(" + re.escape(f) + r" ([\w']+)\)", r"\1", text)
+                    text = re.sub(r"(?<![\w-])" + re.escape(f) + r" ([\w']+)(?= in\b)", r"\1", text)
+                if text == was:
+                    return text
+
+        text = unplace(text)
         while True:
             m = re.search(r"\n?[ \t]*let ([\w']+) = ([\w']+) in", text)
             m = next((x for x in re.finditer(r"let ([\w']+) = ([\w']+) in[ \t]*\n?[ \t]*", text) if x.group(2) == var), None)
@@ -203,9 +208,7 @@ class Function:
             a = m.group(1)
             text = text[: m.start()] + text[m.end():]
             text = re.sub(r"(?<![\w.'-])" + re.escape(a) + r"(?![\w'-])", var, text)
-            for f in self.place_fns:
-                text = re.sub(r"\(" + re.escape(f) + r" " + var + r"\)", var, text)
-                text = re.sub(r"(?<![\w-])" + re.escape(f) + r" " + var + r"(?= in\b)", var, text)
+            text = unplace(text)
         m = re.search(r"let ([\w']+) = " + re.escape(var) + r"\.(?:requires|pre) in[ \t]*\n?[ \t]*", text)
         if m:
             text = text[: m.start()] + text[m.end():]
@@ -213,6 +216,8 @@ class Function:
         for h, (hp, htype, hvar, hbody, kind) in self.helpers.items():
             pat = r"(?<![\w.-])" + re.escape(h) + r" " + re.escape(var) + r"(?![\w.'-])"
             if not re.search(pat, text):
+                continue
+            if goal and self.need_place.get(goal) and norm(self.need_place[goal]) == hp:
                 continue
             if goal:
                 self.used_places.add(self.place_new[hp])
@@ -225,6 +230,8 @@ class Function:
         if var:
             text = self.flat(text, var, place, goal)
         text = re.sub(r"\.fits\.", ".ranges.", text)
+        text = re.sub(r"\.inv\b(?![\w-])", ".invariant", text)
+        text = re.sub(r"(\.(?:args|loop[\w-]*|new|auto)\.)([a-z][\w-]*)", lambda m: m.group(1) + m.group(2).replace("-", "_"), text)
         for a, b in self.names.get("args") or []:
             text = re.sub(re.escape(a.replace(" ", "")) + r"(?![\w'-])", lambda m: b.replace(" ", ""), text)
         # types of places
@@ -270,6 +277,20 @@ class Function:
             k = m.group(4).count("1")
             return f"{m.group(1)}.{m.group(2)}.{m.group(3)}.{params[k]}" if params and k < len(params) else m.group(0)
 
+        def ensured(m):
+            callee = (self.callee_of.get(m.group(2)) or "").split("::")
+            c = next((x for x in self.table.get(callee[-1], []) if x[0] == callee[0]), None)
+            fields = c[2] if c else []
+            if len(fields) < 2:
+                return m.group(0)
+            digits = [d for d in m.group(3).split(".") if d]
+            k = 0
+            while k < len(digits) and digits[k] == "1" and k < len(fields) - 1:
+                k += 1
+            rest = digits[k + 1:] if k < len(fields) - 1 else digits[k:]
+            return f"{m.group(1)}.{m.group(2)}.ensures.{fields[k]}" + "".join("." + d for d in rest)
+
+        text = re.sub(r"(?<![\w.'-])(" + re.escape(var) + r")\.([\w-]+)\.ensures((?:\.[01])+)", ensured, text)
         return re.sub(r"(?<![\w.'-])(" + re.escape(var) + r")\.([\w-]+)\.(new|auto)((?:\.1)*\.0|(?:\.1)+(?!\.\d))", turn, text)
 
     def both(self, a, b):
