@@ -423,7 +423,7 @@ def main():
             if m:
                 fn.place_fns.add(name)
                 continue
-            m = re.match(r"((?:abbrev |pub )*)" + re.escape(name) + r"\s+:\s+(?:\(([\w']+) : )?tie\.((?!Need|invariant|decreases)[A-Z][\w-]*)" + tail + r"\)?\s*→", code)
+            m = re.match(r"((?:abbrev |pub )*)" + re.escape(name) + r"\s+:\s+(?:\(([\w']+) : )?tie\.((?!Need|invariant|decreases)[A-Z][\w-]*)" + tail + r"\)?\s*(?:→|\()", code)
             if m:
                 fn.helpers[name] = (norm(m.group(3)), "", "", "", m.group(1))
         for chunk in defs[:-1]:
