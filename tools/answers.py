@@ -189,7 +189,7 @@ class Function:
             return ".type_inv." + typed[k] if k in typed else m.group(0)
 
         text = re.sub(r"\.((?:shared_|shared-)?slice[_-]known\d*)\.given", known, text)
-        text = re.sub(r"\.before(?![\w-])", "", text)
+        text = re.sub(r"(?<![\w.'-])([\w']+|\([\w' ]+\))(?:\.before(?![\w-]))+", r"\1", text)
         def unplace(text):
             while True:
                 was = text
@@ -267,7 +267,7 @@ class Function:
         if var:
             text = self.new_names(text, var)
         # a step is named from anywhere behind it
-        return re.sub(r"(?:\.before(?![\w-]))+(?=\.(?!before(?![\w-]))[a-z_])", "", text)
+        return re.sub(r"(?<![\w.'-])([\w']+)(?:\.before(?![\w-]))+(?=\.(?!before(?![\w-]))[a-z_])", r"\1", text)
 
     def new_names(self, text, var):
         """`.new.1` of a call by the name of the argument."""
