@@ -147,14 +147,14 @@ written_parts p n m cs a =
     (ap (λ l. ms ++ l) (sym (flat-marked candidate 67 (λ l. refl) (byte_rows n cs) (end ∷ [])))
     ∙ sym (flat-marked row 82 (λ l. refl) (byte_rows n m) (map candidate (byte_rows n cs) ++ (end ∷ []))))
 
--- where there is room for the case, there is room for each part behind those before it
-pub record CaseFits (p n : ℕ) (m cs : List ℕ) (a k : ℕ) : Type 0 where
-  pub head : 0 + length (head_of p n a) ≤ k
-  pub rows : 0 + (length (head_of p n a) + length (marked 82 (byte_rows n m))) ≤ k
-  pub list : 0 + (length (head_of p n a ++ marked 82 (byte_rows n m)) + length (marked 67 (byte_rows n cs))) ≤ k
-  pub ends : 0 + (length ((head_of p n a ++ marked 82 (byte_rows n m)) ++ marked 67 (byte_rows n cs)) + length {A = ℕ} (255 ∷ 69 ∷ [])) ≤ k
+-- where there is room for the case, there is room for each part behind those before it, whatever the eight bytes at the front are
+pub record CaseFits (n : ℕ) (m cs : List ℕ) (k : ℕ) : Type 0 where
+  pub head : 8 ≤ k
+  pub rows : 8 + length (marked 82 (byte_rows n m)) ≤ k
+  pub list : 8 + length (marked 82 (byte_rows n m)) + length (marked 67 (byte_rows n cs)) ≤ k
+  pub ends : 8 + length (marked 82 (byte_rows n m)) + length (marked 67 (byte_rows n cs)) + 2 ≤ k
 
-pub parts_fit : (p n : ℕ) (m cs : List ℕ) (a : ℕ) {k : ℕ} → length (case_written p n m cs a) ≤ k → CaseFits p n m cs a k
+pub parts_fit : (p n : ℕ) (m cs : List ℕ) (a : ℕ) {k : ℕ} → length (case_written p n m cs a) ≤ k → CaseFits n m cs k
 parts_fit p n m cs a h =
     let front : List ℕ = head_of p n a ++ marked 82 (byte_rows n m) in
     let whole = length-append (front ++ marked 67 (byte_rows n cs)) (255 ∷ 69 ∷ []) in
@@ -164,21 +164,26 @@ parts_fit p n m cs a h =
     record {
       head = omega (arith, all, whole, most, some);
       rows = omega (arith, all, whole, most, some);
-      list = omega (arith, all, whole, most);
-      ends = omega (arith, all, whole);
+      list = omega (arith, all, whole, most, some);
+      ends = omega (arith, all, whole, most, some);
     }
 
-pub behind_head : {p n a r : ℕ} {m cs d e : List ℕ} → CaseFits p n m cs a (length d) → LaidAt d 0 (head_of p n a) r e
+pub behind_head : {n r : ℕ} {h m cs d e : List ℕ} → length h ≡ 8 → CaseFits n m cs (length d) → LaidAt d 0 h r e
     → r + length (marked 82 (byte_rows n m)) ≤ length e
-behind_head {n = n} {m = m} F A = laid_room (marked 82 (byte_rows n m)) F.rows A
+behind_head {n} {m = m} l F A = laid_room (marked 82 (byte_rows n m)) (omega (arith, l, F.rows)) A
 
-pub behind_rows : {p n a r : ℕ} {m cs d e : List ℕ} → CaseFits p n m cs a (length d) → LaidAt d 0 (head_of p n a ++ marked 82 (byte_rows n m)) r e
-    → r + length (marked 67 (byte_rows n cs)) ≤ length e
-behind_rows {n = n} {cs = cs} F A = laid_room (marked 67 (byte_rows n cs)) F.list A
+pub behind_rows : {n r q : ℕ} {h m cs d e f : List ℕ} → length h ≡ 8 → CaseFits n m cs (length d) → LaidAt d 0 h r e
+    → LaidAt e r (marked 82 (byte_rows n m)) q f → q + length (marked 67 (byte_rows n cs)) ≤ length f
+behind_rows {n} {cs = cs} l F A B =
+    let same = laid_length (omega (arith, l, F.head)) A in
+    laid_room (marked 67 (byte_rows n cs)) (omega (arith, l, F.list, A.place, same)) B
 
-pub behind_list : {p n a r : ℕ} {m cs d e : List ℕ} → CaseFits p n m cs a (length d)
-    → LaidAt d 0 ((head_of p n a ++ marked 82 (byte_rows n m)) ++ marked 67 (byte_rows n cs)) r e → r + length {A = ℕ} (255 ∷ 69 ∷ []) ≤ length e
-behind_list F A = laid_room (255 ∷ 69 ∷ []) F.ends A
+pub behind_list : {n r q t : ℕ} {h m cs d e f g : List ℕ} → length h ≡ 8 → CaseFits n m cs (length d) → LaidAt d 0 h r e
+    → LaidAt e r (marked 82 (byte_rows n m)) q f → LaidAt f q (marked 67 (byte_rows n cs)) t g → t + 2 ≤ length g
+behind_list l F A B C =
+    let same = laid_length (omega (arith, l, F.head)) A in
+    let so = laid_length (behind_head l F A) B in
+    laid_room (255 ∷ 69 ∷ []) (omega (arith, l, F.ends, A.place, B.place, same, so)) C
 
 -- so the case is written, and its length told
 pub written_all : {d e : List ℕ} {r : ℕ} (p n : ℕ) (m cs : List ℕ) (a : ℕ)
