@@ -5,9 +5,7 @@
 --   fits_peek        what lies ahead is the record that fits there
 --   FitsAs q t       the bytes t are those of a record that fits in the state q
 --   alive_fits       where the bytes up to the end of what lies ahead do not lead to Dead, a record fits
---   record_as        what lies ahead in a state, by another that is the same
 --   peek_far         the offset behind a record is not in front of it
---   not_open, tag_nothing   the tags of the states in which no record begins, and that nothing lies ahead in them
 -- Assumes nothing.
 use mathlib.Core.Path.{◌≡◌, refl, sym, ap, ap₂, subst, ◌∙◌}
 use mathlib.Core.Bool.{false}
@@ -19,8 +17,6 @@ use lib.ListN.{length, get_or, take, drop, length-drop, take-append-drop}
 use lib.Seq.{slice, drop-drop, take_at, length-take-le}
 use lib.Dec.{leb, ltb, eqb}
 use borrow.Author.Tests.{le-ltb, ltb-true, ltb-false, leb-true, eqb-true}
-use types.Run.{OneOf, miss}
-use denote.Enum.Declared.{tag_of}
 use Rattle.algebra.proofs.Field.{pick_each}
 use Rattle.meaning.specs.Refusal.{is_prime}
 use Rattle.meaning.specs.Case.{Record, record_bytes, radix}
@@ -30,7 +26,6 @@ use Rattle.scan.specs.declared.Head.{Head}
 use Rattle.scan.specs.declared.State.{State}
 use Rattle.scan.specs.declared.State.TheVariants.{Start, Opening, Modulus, Size, Body, Letter, Entries, Over, Dead}
 use Rattle.scan.specs.Machine.{only, begun, stale, opened, sized, letter, after, run}
-use Rattle.scan.specs.contracts.State.{the_type}
 use Rattle.scan.proofs.Run.{Alive, only_alive, entries_small}
 use Rattle.scan.proofs.Records.{Fits}
 use Rattle.scan.proofs.Records.Fits.{fits_field, fits_allow, fits_row, fits_candidate, fits_end}
@@ -247,9 +242,6 @@ pub alive_fits : {q : State} {x : Step} {e : ℕ} (at : ℕ) (t : List ℕ) → 
     → FitsAs q (take (e - at) t)
 alive_fits {q} at t h = subst (Fit q at t) h (fit_record q at t)
 
-pub record_as : {q z : State} {r : Ahead} (at : ℕ) (t : List ℕ) → q ≡ z → r ≡ record_at z at t → r ≡ record_at q at t
-record_as at t e h = h ∙ ap (λ x. record_at x at t) (sym e)
-
 -- the offset behind a record is not in front of it
 abbrev Far : ℕ → Ahead → Type 0
 Far at (ahead.Record x e) = at ≤ e
@@ -282,19 +274,3 @@ far_record Dead at t = tt
 
 pub peek_far : {x : Step} {at e : ℕ} (q : State) (t : List ℕ) → record_at q at t ≡ ahead.Record x e → at ≤ e
 peek_far {at = at} q t h = subst (Far at) h (far_record q at t)
-
--- where no record begins
-abbrev pub not_open : List ℕ
-not_open = 1 ∷ 2 ∷ 3 ∷ 5 ∷ 6 ∷ 7 ∷ 8 ∷ []
-
-pub tag_nothing : (q : State) (at : ℕ) (t : List ℕ) → OneOf not_open (tag_of the_type q) → ahead.Nothing ≡ record_at q at t
-unfolding record_at
-tag_nothing Start at t h = absurd (miss not_open 0 tt h)
-tag_nothing Opening at t h = refl
-tag_nothing Modulus at t h = refl
-tag_nothing (Size p) at t h = refl
-tag_nothing (Body h) at t k = absurd (miss not_open 4 tt k)
-tag_nothing (Letter h) at t k = refl
-tag_nothing (Entries h bound left) at t k = refl
-tag_nothing (Over h) at t k = refl
-tag_nothing Dead at t h = refl

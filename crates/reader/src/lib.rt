@@ -58,6 +58,7 @@ pub fn front() -> Cursor
 }
 
 // The F record at `at`, unless it is cut short.
+#[tactic(auto, unfolding(crate::specs::Look::field_at))]
 fn peek_field(s: &[u8], at: usize) -> Ahead
     requires { at ≤ length s.now }
     ensures { result ≡ field_at at (drop at s.now) }
@@ -76,6 +77,7 @@ fn peek_field(s: &[u8], at: usize) -> Ahead
 }
 
 // The record behind F that begins at `at`, by its letter, unless its numbers are cut short.
+#[tactic(auto, unfolding(crate::specs::Look::body_at))]
 fn peek_body(s: &[u8], at: usize, n: u8) -> Ahead
     requires { at ≤ length s.now }
     ensures { result ≡ body_at n at (drop at s.now) }
@@ -117,6 +119,7 @@ fn peek_body(s: &[u8], at: usize, n: u8) -> Ahead
 }
 
 // The record that begins at `at` in the state q, if the bytes up to `next` are good.
+#[tactic(auto, unfolding(crate::specs::Look::record_at))]
 fn peek(s: &[u8], at: usize, q: State) -> Ahead
     requires { at ≤ length s.now }
     ensures { result ≡ record_at q at (drop at s.now) }
