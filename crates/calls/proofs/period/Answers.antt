@@ -1,0 +1,45 @@
+-- `calls::period` meets its contract: where the refusal is none, the inputs are sound, and the worker's answer is the period. Assumes nothing.
+use mathlib.Core.Path.{◌≡◌, sym, ap, ◌∙◌, subst}
+use mathlib.Core.Option.{none}
+use native.Mathlib.Omega.{arith}
+use borrow.Author.Rules.{rules}
+use Rattle.meaning.specs.Period.{IsPeriod}
+use Rattle.meaning.specs.Refusal.{period_refusal}
+use Rattle.meaning.proofs.Refusal.{period_sound}
+use Rattle.period.specs.Returning.{returns_of}
+use Rattle.reasons.specs.Reasons.{checked_of}
+use Rattle.meaning.proofs.Called.{refused_by, given_by}
+use Rattle.calls.proofs.period.Goals as goal
+use Rattle.calls.proofs.period.Goals.{In_default}
+
+taken : (c : In_default) → let x = c.args in period_refusal x.p x.n x.m.now ≡ none
+taken c = sym c.in_default.ensures
+
+pub returns-in-Refused : goal.returns-in-Refused
+returns-in-Refused c = refused_by (sym c.in-Refused.ensures)
+
+pub overflow_cast-p : goal.overflow_cast-p
+overflow_cast-p c = omega (arith, period_sound _ _ _ (sym c.in_default.ensures))
+
+pub period-requires : goal.period-requires
+period-requires c =
+    let S = period_sound _ _ _ (sym c.in_default.ensures) in
+     record {
+  lt_p = S.prime.big;
+  n_le_widest = S.size;
+  m_len = S.matrix;
+}
+
+pub returns-in-Least : goal.returns-in-Least
+returns-in-Least c =
+    let x = c.args in
+    given_by
+    (taken (goal.at.returns-in-Least c).In_default)
+    c.in-Least.ensures
+
+pub returns-in-Never : goal.returns-in-Never
+returns-in-Never c =
+    let x = c.args in
+    given_by
+    (taken (goal.at.returns-in-Never c).In_default)
+    c.in-Never.ensures
