@@ -2,7 +2,7 @@
 --   noted_all_append   records behind records
 --   gathered_more     one more record at the end is one more `noted`
 --   gathered_case     the records of a case come to the case
---   Starts xs x       a well_formed case has the records xs, and then x
+--   Starts xs x       a well-formed case has the records xs, and then x
 --   starts_room       so there is a place for x behind what xs come to
 -- Assumes nothing.
 use mathlib.Core.Path.{◌≡◌, refl, sym, ap, subst, ◌∙◌}

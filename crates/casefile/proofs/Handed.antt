@@ -1,5 +1,5 @@
 -- Records handed out, and the case that they begin.
---   handed_starts   with the next record they begin a well_formed case
+--   handed_starts   with the next record they begin a well-formed case
 --   handed_all      at the end of a case they come to its values
 -- Assumes nothing.
 use mathlib.Core.Path.{◌≡◌, sym, ap, subst, ◌∙◌}

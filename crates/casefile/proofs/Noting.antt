@@ -3,7 +3,6 @@
 --   copied_start, copied_turn, copied_end   the loop that copies
 --   Fitting k most room l   k rows come before l, fewer than `most`, and l fits behind them
 --   row_fitting, candidate_fitting   so do the entries of a record that can be noted
---   no_entries               the tags of the steps End, Over and Refused
 --   noted_field, noted_allow, noted_row, noted_candidate, noted_rest   what is held with one more record, by the step
 -- Assumes nothing.
 use mathlib.Core.Path.{◌≡◌, refl, sym, ap, ap₂, subst, ◌∙◌}
@@ -14,8 +13,6 @@ use native.Mathlib.Nat.{le_antisymm}
 use native.Mathlib.Omega.{arith}
 use lib.ListN.{length, get_or, set, length-append, length-set}
 use lib.Seq.{paste, paste-zero}
-use types.Run.{OneOf, miss}
-use denote.Enum.Declared.{tag_of}
 use Rattle.meaning.specs.Bytes.{padded}
 use Rattle.meaning.specs.Bounds.{most_candidates, widest, matrix_room, candidate_room}
 use Rattle.meaning.specs.Case.{Record, matrix_bytes, candidate_bytes, radix}
@@ -27,7 +24,6 @@ use Rattle.reader.specs.declared.Stepped.{Stepped}
 use Rattle.casefile.specs.declared.Numbers.{Numbers}
 use Rattle.reader.specs.Step.{entries_in, record_with}
 use Rattle.casefile.specs.Gathered.{noted, Stored, Behind, RoomFor, Noting, Noted}
-use Rattle.reader.specs.contracts.Step.{the_type}
 
 pub record Copied (s d new : List ℕ) (at i : ℕ) : Type 0 where
   pub is : new ≡ paste d at s i
@@ -159,17 +155,17 @@ noted_candidate {m = m} {new = new} {l = l} e f g w =
     })
 
 -- any other step that hands out a record hands out E
-abbrev pub no_entries : List ℕ
-no_entries = 4 ∷ 5 ∷ 6 ∷ []
+rest_end : (x : Step) (l : List ℕ) (y : Record) → ((p n : ℕ) → x ≡ step.Field p n → ⊥) → ((high low : ℕ) → x ≡ step.Allow high low → ⊥)
+    → (x ≡ step.Row → ⊥) → (x ≡ step.Candidate → ⊥) → record_with l x ≡ some y → end ≡ y
+rest_end (step.Field p n) l y f a r c e = absurd (f p n refl)
+rest_end (step.Allow high low) l y f a r c e = absurd (a high low refl)
+rest_end step.Row l y f a r c e = absurd (r refl)
+rest_end step.Candidate l y f a r c e = absurd (c refl)
+rest_end step.End l y f a r c e = cc
+rest_end step.Over l y f a r c e = let z : ◌≡◌ {A = ℕ} 0 1 = cc in absurd (omega arith)
+rest_end (step.Refused k) l y f a r c e = let z : ◌≡◌ {A = ℕ} 0 1 = cc in absurd (omega arith)
 
-rest_end : (x : Step) (l : List ℕ) (y : Record) → OneOf no_entries (tag_of the_type x) → record_with l x ≡ some y → end ≡ y
-rest_end (step.Field p n) l y h e = absurd (miss no_entries 0 tt h)
-rest_end (step.Allow high low) l y h e = absurd (miss no_entries 1 tt h)
-rest_end step.Row l y h e = absurd (miss no_entries 2 tt h)
-rest_end step.Candidate l y h e = absurd (miss no_entries 3 tt h)
-rest_end step.End l y h e = cc
-rest_end step.Over l y h e = let z : ◌≡◌ {A = ℕ} 0 1 = cc in absurd (omega arith)
-rest_end (step.Refused k) l y h e = let z : ◌≡◌ {A = ℕ} 0 1 = cc in absurd (omega arith)
-
-pub noted_rest : {s : List ℕ} {r : Stepped} {v : Numbers} {m cs : List ℕ} → OneOf no_entries (tag_of the_type r.step) → Noted s r v m cs v m cs
-noted_rest {s} {r} {v} {m} {cs} h w = subst (λ x. Stored (noted w.values x) v m cs) (rest_end r.step (entries_in s r) w.next h w.hands) w.holds
+pub noted_rest : {s : List ℕ} {r : Stepped} {v : Numbers} {m cs : List ℕ} → ((p n : ℕ) → r.step ≡ step.Field p n → ⊥)
+    → ((high low : ℕ) → r.step ≡ step.Allow high low → ⊥) → (r.step ≡ step.Row → ⊥) → (r.step ≡ step.Candidate → ⊥) → Noted s r v m cs v m cs
+noted_rest {s} {r} {v} {m} {cs} f a i c w =
+    subst (λ x. Stored (noted w.values x) v m cs) (rest_end r.step (entries_in s r) w.next f a i c w.hands) w.holds

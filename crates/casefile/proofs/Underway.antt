@@ -1,7 +1,6 @@
 -- Reading a whole file: what is held of the records handed out so far, and how it ends.
 --   Underway s m cs v at   the steps up to the offset `at` handed out records, and v, m and cs hold what they come to
---   handing                the tags of the steps that hand out a record
---   step_less              such a step leaves fewer bytes
+--   step_less              a step that hands out a record, neither Over nor Refused, leaves fewer bytes
 --   underway_start         at the front nothing is held
 --   underway_noting        a record that is handed out can be noted
 --   underway_turn          behind it the records handed out are one more
@@ -13,13 +12,10 @@ use mathlib.Core.Option.{Option, some, none-ne-some}
 use Prim.Native.Nat.{ℕ, ◌+◌, ◌-◌, ◌<◌}
 use native.Mathlib.Omega.{arith}
 use lib.ListN.{length, replicate, length-replicate}
-use types.Run.{OneOf, miss}
-use denote.Enum.Declared.{tag_of}
-use Rattle.meaning.specs.Case.{Record, record_bytes, Case, default_allowance}
+use Rattle.meaning.specs.Case.{Record, record_bytes, default_allowance}
 use Rattle.meaning.proofs.Flat.{record_long}
 use Rattle.meaning.proofs.Written.{zeros_padded}
 use Rattle.meaning.specs.Bounds.{matrix_room, candidate_room}
-use Rattle.reader.specs.declared.Step.{Step}
 use Rattle.reader.specs.declared.Step.TheVariants as step
 use Rattle.reader.specs.declared.Stepped.{Stepped}
 use Rattle.casefile.specs.declared.Numbers.{Numbers}
@@ -30,7 +26,6 @@ use Rattle.reader.specs.Step.Handed.{at_front, more}
 use Rattle.casefile.specs.Gathered.{gathered, noted_all, Stored, Noting, Noted}
 use Rattle.casefile.specs.Reading.{ReadIs}
 use Rattle.casefile.specs.Reading.ReadIs.{reads, refuses as no_case}
-use Rattle.reader.specs.contracts.Step.{the_type}
 use Rattle.reader.proofs.Stepping.{next_within, step_refused}
 use Rattle.reader.proofs.Steps.{handed_stuck}
 use Rattle.casefile.proofs.Gathered.{gathered_more, starts_room}
@@ -54,35 +49,27 @@ underway_start s e = record {
   candidate_size = length-replicate {A = ℕ} candidate_room 0;
 }
 
--- which steps hand out a record
-abbrev pub handing : List ℕ
-handing = 0 ∷ 1 ∷ 2 ∷ 3 ∷ 4 ∷ []
-
-handing_not_over : {x : Step} → OneOf handing (tag_of the_type x) → x ≡ step.Over → ⊥
-handing_not_over h e = miss handing 5 tt (subst (λ y. OneOf handing (tag_of the_type y)) e h)
-
-handing_not_refused : (x : Step) (k : ℕ) → OneOf handing (tag_of the_type x) → refusal_of x ≡ some (8, k) → ⊥
-handing_not_refused x k h e = miss handing 6 tt (subst (λ y. OneOf handing (tag_of the_type y)) (step_refused x k e) h)
-
--- what such a step says
+-- what a step says that hands out a record
 record GivesOut (s : List ℕ) (at : ℕ) (r : Stepped) : Type 0 where
   next : Record
   hands_out : record_of s r ≡ some next
   is_next : NextRecord s at next
   behind : r.next.at ≡ at + length (record_bytes next)
 
-step_gives : {s : List ℕ} {at : ℕ} {r : Stepped} → StepIs s at r → OneOf handing (tag_of the_type r.step) → GivesOut s at r
-step_gives (hands x N e f k) h = record { next = x; hands_out = e; is_next = N; behind = k }
-step_gives (over E e f k) h = absurd (handing_not_over h e)
-step_gives {r = r} (refuses k N E P e f g) h = absurd (handing_not_refused r.step k h e)
+step_gives : {s : List ℕ} {at : ℕ} {r : Stepped} → StepIs s at r → (r.step ≡ step.Over → ⊥) → ((k : ℕ) → r.step ≡ step.Refused k → ⊥) → GivesOut s at r
+step_gives (hands x N e f k) o g = record { next = x; hands_out = e; is_next = N; behind = k }
+step_gives (over E e f k) o g = absurd (o e)
+step_gives {r = r} (refuses k N E P e f h) o g = absurd (g k (step_refused r.step k e))
 
-pub step_less : {s : List ℕ} {at : ℕ} {r : Stepped} → StepIs s at r → OneOf handing (tag_of the_type r.step) → length s - r.next.at < length s - at
-step_less S h = let x = step_gives S h in omega (arith, x.behind, record_long x.next, next_within x.is_next)
+pub step_less : {s : List ℕ} {at : ℕ} {r : Stepped} → StepIs s at r → (r.step ≡ step.Over → ⊥) → ((k : ℕ) → r.step ≡ step.Refused k → ⊥)
+    → length s - r.next.at < length s - at
+step_less S o g = let x = step_gives S o g in omega (arith, x.behind, record_long x.next, next_within x.is_next)
 
-module _ {s m cs : List ℕ} {v : Numbers} {at : ℕ} {r : Stepped} (P : Underway s m cs v at) (S : StepIs s at r) (h : OneOf handing (tag_of the_type r.step)) where
+module _ {s m cs : List ℕ} {v : Numbers} {at : ℕ} {r : Stepped} (P : Underway s m cs v at) (S : StepIs s at r) (o : r.step ≡ step.Over → ⊥)
+    (g : (k : ℕ) → r.step ≡ step.Refused k → ⊥) where
   pub underway_noting : Noting s r v m cs
   underway_noting =
-      let x = step_gives S h in
+      let x = step_gives S o g in
       record {
         values = gathered P.records;
         next = x.next;
@@ -97,11 +84,11 @@ module _ {s m cs : List ℕ} {v : Numbers} {at : ℕ} {r : Stepped} (P : Underwa
       → Underway s m' cs' v' r.next.at
   unfolding underway_noting
   underway_turn {m'} {cs'} {v'} N k l =
-      let x = step_gives S h in
+      let x = step_gives S o g in
       record {
         records = P.records ++ (x.next ∷ []);
         handed = more r P.handed S x.hands_out;
-        holds = subst (λ g. Stored g v' m' cs') (sym (gathered_more P.records x.next)) (N underway_noting);
+        holds = subst (λ c. Stored c v' m' cs') (sym (gathered_more P.records x.next)) (N underway_noting);
         matrix_size = k ∙ P.matrix_size;
         candidate_size = l ∙ P.candidate_size;
       }

@@ -15,7 +15,7 @@ const DEFAULT_ALLOWANCE: u32 = 8192;
 // What the reader answers of a whole file.
 #[derive(Clone, Copy)]
 pub enum Reading {
-    // The numbers of a well_formed case; count is the number of candidates.
+    // The numbers of a well-formed case; count is the number of candidates.
     Case {
         p: u32,
         n: usize,

@@ -5,8 +5,8 @@
 --   record_with l x    the record that the step x says, with the entries l
 --   record_of s r      the record that the answer r hands out, its entries read off the bytes s
 --   refusal_of x       01's number and the place that a step says
---   NextRecord s at x   a well_formed case has the record x behind the records that fill s up to `at`, and s holds x there whole
---   Ended s at        s is a well_formed case and `at` is its length
+--   NextRecord s at x   a well-formed case has the record x behind the records that fill s up to `at`, and s holds x there whole
+--   Ended s at        s is a well-formed case and `at` is its length
 --   StepIs s at r     the answer r to a step at any offset, with where it was made and the offset for the next one: the record; the end; or number 8
 --   stepped_to x from next   the answer that says x, made at the offset `from`, the next one at `next`
 --   Handed s xs at    the steps from offset 0 on hand out xs, one after another, and the offset behind them is `at`

@@ -2,7 +2,7 @@
 --   dead_or, over_or   a state is Dead or not, and Over or not
 --   Scan s from to   how far a scan of s from `from` towards `to` gets, and in which state
 --   scan_exists      from a state on to any offset there is a scan
---   case_or_place    any bytes are a well_formed case, or are none and have a place
+--   case_or_place    any bytes are a well-formed case, or are none and have a place
 -- Assumes nothing.
 use mathlib.Core.Path.{◌≡◌, refl, sym, ap, ◌∙◌}
 use mathlib.Core.Logic.{◌⊎◌, inl, inr, ⊎_elim}

@@ -1,6 +1,6 @@
 -- What bytes begin, and the place of refusal 8, by the machine.
---   over_case, case_over   bytes that lead to Over are a well_formed case, and the other way round
---   viable_begins, begins_alive   bytes begin a well_formed case exactly when they do not lead to Dead
+--   over_case, case_over   bytes that lead to Over are a well-formed case, and the other way round
+--   viable_begins, begins_alive   bytes begin a well-formed case exactly when they do not lead to Dead
 --   scans_start, scans_turn, scans_begins   a scan from the front, over one byte more, and that its bytes begin a case
 --   place_dead, place_end   the place is where a byte leads to Dead, or the end
 --   scan_to          a scan that got as far as it was asked to
@@ -24,7 +24,7 @@ use Rattle.scan.specs.Machine.{after, run, Viable, Scans, ScanIs}
 use Rattle.scan.proofs.Run.{Alive, viable_alive, run_append, run_alive, viable_after}
 use Rattle.scan.proofs.Records.{last, parse, takes_case, case_takes, takes_end, viable_lives}
 
--- bytes that lead to Over are a well_formed case, and the other way round
+-- bytes that lead to Over are a well-formed case, and the other way round
 pub over_case : {h : Head} (s : List ℕ) → run Start s ≡ Over h → (c : Case) × IsCase s c
 unfolding case_bytes
 over_case {h} s e =

@@ -5,8 +5,8 @@
 --   fits_viable, takes_viable   viable states lead to viable states
 --   fits-run, fits_comes, takes_run, takes_end   the bytes of records lead where the records do
 --   last c           what the machine keeps behind the whole case c
---   CaseOf xs        a well_formed case whose records are xs
---   case_takes, takes_case   a well_formed case is a list of records that leads from Start to Over, and no other list does
+--   CaseOf xs        a well-formed case whose records are xs
+--   case_takes, takes_case   a well-formed case is a list of records that leads from Start to Over, and no other list does
 --   case_fits        a record of a case may come behind those before it
 --   over_takes       no record comes behind E
 --   Whole q          no record is under way
@@ -120,7 +120,7 @@ pub takes_viable : {q z : State} {xs : List Record} → Takes q xs z → Viable 
 takes_viable stays g = g
 takes_viable (takes f u) g = takes_viable u (fits_viable f g)
 
--- a well_formed case leads from Start to Over
+-- a well-formed case leads from Start to Over
 candidates_take : (h : Head) (ys : List (List ℕ)) → RowsOf h.p h.n ys → h.n ≤ h.count → h.count + length ys ≤ h.n + most_candidates
     → Takes (Body h) (map candidate ys ++ (end ∷ [])) (Over (stale h (h.count + length ys)))
 candidates_take h [] s i k = subst (λ j. Takes (Body h) (end ∷ []) (Over (stale h j))) (sym (add-zero h.count)) (takes (fits_end i) stays)

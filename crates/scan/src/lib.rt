@@ -1,7 +1,7 @@
 // What goes over the bytes of a case file (01, "Case file, house layout").
 //
 // A scan goes over the bytes from the front and keeps what the rest of the file depends on (`State`). Every state but `Dead` can be continued to a
-// well_formed case, so the first byte that leads to `Dead` stands at the place of refusal 8.
+// well-formed case, so the first byte that leads to `Dead` stands at the place of refusal 8.
 #![tactic(auto)]
 
 ghost use Rattle.std.specs.Prelude.{◌≡◌, ◌+◌, ◌<◌, ◌≤◌};
@@ -42,7 +42,7 @@ pub enum State {
     Entries { head: Head, bound: u8, left: u8 },
     // E was the last record: nothing may follow.
     Over(Head),
-    // No well_formed case begins so.
+    // No well-formed case begins so.
     Dead,
 }
 
@@ -195,7 +195,7 @@ pub fn behind(q: State, b: u8) -> State
     }
 }
 
-// From a state reached at `from` on to the offset `to`, or as far as the bytes begin a well_formed case.
+// From a state reached at `from` on to the offset `to`, or as far as the bytes begin a well-formed case.
 pub fn scan(s: &[u8], q: State, from: usize, to: usize) -> Scanned
     requires { Scans s.now from q × (from ≤ to) }
     ensures { ScanIs s.now from to result.at result.state }
