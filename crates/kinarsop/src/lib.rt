@@ -1,6 +1,6 @@
-// The face for C and for Rust: each call of the library under a plain name, with numbers, slices (a pointer and a length) and one struct for each
-// answer. The number of `refusal` is 0 where the call is answered, else that of its refusal, with the row and the column of a bad entry, and then all
-// else is 0. What a C programmer has to know is in include/kinarsop.h; nothing holds that file to this one but the trials from outside.
+// The face for C and for Rust: each call of the library under a plain name, with numbers, slices and one struct for each answer. The number of
+// `refusal` is 0 where the call is answered, else that of its refusal, with the row and the column of a bad entry, and then all else is 0. The crate
+// kinarsop_c exports these functions to C, each under its name and with its clauses.
 #![tactic(auto)]
 
 ghost use Rattle.std.specs.Prelude.{◌≡◌, [], ◌∷◌};
@@ -88,8 +88,7 @@ fn answered() -> Numbers
 }
 
 // `calls::inverse`.
-#[unsafe(no_mangle)]
-pub extern "C" fn kinarsop_inverse(p: u32, a: u32) -> InverseAnswer
+pub fn kinarsop_inverse(p: u32, a: u32) -> InverseAnswer
     ensures inverse_call { InverseCall p a (inverse_read result) }
     ensures alone { Alone result.refusal (result.inverse ∷ []) }
 {
@@ -110,14 +109,7 @@ pub extern "C" fn kinarsop_inverse(p: u32, a: u32) -> InverseAnswer
 }
 
 // `calls::order`: the degree, and the coefficients at the front of `out`.
-#[unsafe(no_mangle)]
-pub extern "C" fn kinarsop_order(
-    p: u32,
-    n: usize,
-    m: &[u8],
-    v: &[u8],
-    out: &mut [u8],
-) -> OrderAnswer
+pub fn kinarsop_order(p: u32, n: usize, m: &[u8], v: &[u8], out: &mut [u8]) -> OrderAnswer
     ensures order_call { OrderCall p n m.now v.now out.old (order_read result) out.new }
     ensures alone { Alone result.refusal (result.degree ∷ []) }
 {
@@ -134,15 +126,7 @@ pub extern "C" fn kinarsop_order(
 }
 
 // `calls::image`: what is returned is the refusal alone, its number 0 where the image is written to `out`.
-#[unsafe(no_mangle)]
-pub extern "C" fn kinarsop_image(
-    p: u32,
-    n: usize,
-    m: &[u8],
-    v: &[u8],
-    f: &[u8],
-    out: &mut [u8],
-) -> Numbers
+pub fn kinarsop_image(p: u32, n: usize, m: &[u8], v: &[u8], f: &[u8], out: &mut [u8]) -> Numbers
     ensures image_call { ImageCall p n m.now v.now f.now out.old (image_read result) out.new }
     ensures alone { Alone result [] }
 {
@@ -168,8 +152,7 @@ fn counted(proved: bool, counts: Counts, witness: usize) -> StandAnswer
 }
 
 // `calls::stand`: what it counts, the polynomial in `poly` and the image of the witness in `image`.
-#[unsafe(no_mangle)]
-pub extern "C" fn kinarsop_stand(
+pub fn kinarsop_stand(
     p: u32,
     n: usize,
     m: &[u8],
@@ -196,8 +179,7 @@ pub extern "C" fn kinarsop_stand(
 }
 
 // `calls::chain`: the number of stages, their product in `product` and their record in `stages`.
-#[unsafe(no_mangle)]
-pub extern "C" fn kinarsop_chain(
+pub fn kinarsop_chain(
     p: u32,
     n: usize,
     m: &[u8],
@@ -221,8 +203,7 @@ pub extern "C" fn kinarsop_chain(
 }
 
 // `calls::period`.
-#[unsafe(no_mangle)]
-pub extern "C" fn kinarsop_period(p: u32, n: usize, m: &[u8]) -> PeriodAnswer
+pub fn kinarsop_period(p: u32, n: usize, m: &[u8]) -> PeriodAnswer
     ensures period_call { PeriodCall p n m.now (period_read result) }
     ensures alone { Alone result.refusal (result.period ∷ []) }
 {
@@ -243,8 +224,7 @@ pub extern "C" fn kinarsop_period(p: u32, n: usize, m: &[u8]) -> PeriodAnswer
 }
 
 // `sheet::sheet`: how many bytes of `out` are the text.
-#[unsafe(no_mangle)]
-pub extern "C" fn kinarsop_sheet(file: &[u8], out: &mut [u8]) -> SheetAnswer
+pub fn kinarsop_sheet(file: &[u8], out: &mut [u8]) -> SheetAnswer
     ensures sheet_call { SheetCall file.now out.old (sheet_read result) out.new }
     ensures alone { Alone result.refusal (result.length ∷ []) }
 {
@@ -261,8 +241,7 @@ pub extern "C" fn kinarsop_sheet(file: &[u8], out: &mut [u8]) -> SheetAnswer
 }
 
 // `writer::write`: how many bytes of `out` are the case.
-#[unsafe(no_mangle)]
-pub extern "C" fn kinarsop_write(
+pub fn kinarsop_write(
     p: u32,
     n: usize,
     m: &[u8],
