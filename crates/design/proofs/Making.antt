@@ -6,7 +6,7 @@
 -- Assumes nothing.
 use mathlib.Core.Path.{◌≡◌, refl, sym, ap, ap₂, subst, ◌∙◌}
 use mathlib.Core.List.{List}
-use mathlib.Core.Option.{some, none-ne-some, some-injective}
+use mathlib.Core.Option.{none-ne-some, some-injective}
 use Prim.Native.Nat.{ℕ, ◌*◌, ◌-◌, ◌≤◌}
 use native.Mathlib.Nat.{mul-le-mul}
 use native.Mathlib.Omega.{arith}
@@ -15,7 +15,6 @@ use Rattle.meaning.specs.Bytes.{padded}
 use Rattle.meaning.specs.Bounds.{widest, most_candidates, matrix_room, candidate_room}
 use Rattle.meaning.specs.Case.{Case, allowance_of, matrix_bytes, candidate_bytes}
 use Rattle.meaning.specs.Writing.{WriteCall}
-use Rattle.meaning.specs.Calls.{Answer}
 use Rattle.meaning.specs.Design.{IsDesign}
 use Rattle.meaning.proofs.Case.{flatten_length, case_sound}
 use Rattle.meaning.proofs.Written.{padded_take}

@@ -17,7 +17,7 @@ use borrow.Author.Tests.{lt-ltb, le-ltb, ne_eqb}
 use Rattle.meaning.specs.Refusal.{all_below, is_prime}
 use Rattle.meaning.specs.Bytes.{padded}
 use Rattle.meaning.specs.Bounds.{matrix_room, candidate_room}
-use Rattle.meaning.specs.Case.{Case, radix, Begins, allowance_of, matrix_bytes, candidate_bytes}
+use Rattle.meaning.specs.Case.{radix, Begins, allowance_of, matrix_bytes, candidate_bytes}
 use Rattle.meaning.specs.Design as meant
 use Rattle.meaning.specs.Design.{Spot, said, spot_at, no_byte, Proper, fits, FirstWrong, bytes_said, text_said}
 use Rattle.meaning.specs.Design.{word_field, prime, size, entry_below, allowance, line_end, allowance_or_row, word_row, candidate_or_end, text_end}

@@ -1,14 +1,11 @@
 -- What may come in a state, as the code tests it.
 --   due_both, due_row, due_candidate, due_end   the words where a line begins, by the tests
 --   due_allowance, due_entry   the numbers behind a word
---   due_line_end     all other states, by their tags
+--   due_line_end     all other states
 -- Assumes nothing.
 use mathlib.Core.Path.{◌≡◌, refl, sym, ap, ◌∙◌}
 use mathlib.Core.Bool.{true, false}
-use mathlib.Core.List.{List, [], ◌∷◌}
 use Prim.Native.Nat.{ℕ, ◌+◌, ◌<◌, ◌≤◌}
-use types.Run.{OneOf, miss}
-use denote.Enum.Declared.{tag_of}
 use borrow.Author.Tests.{lt-ltb, le-ltb, eq-eqb, ne_eqb}
 use Rattle.meaning.specs.Bounds.{most_candidates}
 use Rattle.meaning.specs.Case.{radix}
@@ -16,7 +13,6 @@ use Rattle.meaning.specs.Design.{entry_below, allowance, line_end, allowance_or_
 use Rattle.scan.specs.declared.Head.{Head}
 use Rattle.scan.specs.declared.State.{State}
 use Rattle.scan.specs.declared.State.TheVariants.{Start, Opening, Modulus, Size, Body, Letter, Entries, Over, Dead}
-use Rattle.scan.specs.contracts.State.{the_type}
 use Rattle.design.specs.Expecting.{expected_of}
 
 pub due_both : (h : Head) → h.count < h.n → h.fresh ≡ true → allowance_or_row ≡ expected_of (Letter h)
@@ -49,17 +45,15 @@ due_entry {q} {h} {bound} {left} e r = here ∙ sym (ap expected_of e)
     here : entry_below bound ≡ expected_of (Entries h bound left)
     here = rw (ne_eqb bound radix r)
 
-abbrev pub others : List ℕ
-others = 0 ∷ 4 ∷ 7 ∷ 8 ∷ []
-
-pub due_line_end : (q : State) → OneOf others (tag_of the_type q) → line_end ≡ expected_of q
+pub due_line_end : (q : State) → (q ≡ Opening → ⊥) → (q ≡ Modulus → ⊥) → ((p : ℕ) → q ≡ Size p → ⊥) → ((h : Head) → q ≡ Letter h → ⊥)
+    → ((h : Head) (bound left : ℕ) → q ≡ Entries h bound left → ⊥) → line_end ≡ expected_of q
 unfolding expected_of
-due_line_end Start h = refl
-due_line_end Opening h = absurd (miss others 1 tt h)
-due_line_end Modulus h = absurd (miss others 2 tt h)
-due_line_end (Size p) h = absurd (miss others 3 tt h)
-due_line_end (Body k) h = refl
-due_line_end (Letter k) h = absurd (miss others 5 tt h)
-due_line_end (Entries k bound left) h = absurd (miss others 6 tt h)
-due_line_end (Over k) h = refl
-due_line_end Dead h = refl
+due_line_end Start o m s l e = refl
+due_line_end Opening o m s l e = absurd (o refl)
+due_line_end Modulus o m s l e = absurd (m refl)
+due_line_end (Size p) o m s l e = absurd (s p refl)
+due_line_end (Body k) o m s l e = refl
+due_line_end (Letter k) o m s l e = absurd (l k refl)
+due_line_end (Entries k bound left) o m s l e = absurd (e k bound left refl)
+due_line_end (Over k) o m s l e = refl
+due_line_end Dead o m s l e = refl
