@@ -2,11 +2,11 @@
 --   unmade_only   what is told of a text that is no design is known by the spot and by what was expected
 --   made_once     any two permitted answers and buffer contents are the same
 -- Assumes nothing.
-use mathlib.Core.Path.{◌≡◌, refl, sym, ap, subst, ◌∙◌}
+use mathlib.Core.Path.{◌≡◌, sym, ap, subst, ◌∙◌}
 use mathlib.Core.List.{List}
-use mathlib.Core.Option.{Option, some, none-ne-some, some-injective}
+use mathlib.Core.Option.{some, none-ne-some, some-injective}
 use Prim.Native.Nat.{ℕ}
-use Rattle.meaning.specs.Case.{Case, allowance_of, matrix_bytes, candidate_bytes}
+use Rattle.meaning.specs.Case.{allowance_of, matrix_bytes, candidate_bytes}
 use Rattle.meaning.specs.Writing.{WriteCall}
 use Rattle.meaning.specs.Design as meant
 use Rattle.meaning.specs.Design.{Spot}

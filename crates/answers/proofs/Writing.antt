@@ -11,7 +11,7 @@ use native.Mathlib.Nat.{div-eq_of_eq-mul_left}
 use lib.ListN.{length, take}
 use Rattle.meaning.specs.Bytes.{write, padded}
 use Rattle.meaning.specs.Bounds.{matrix_room, candidate_room}
-use Rattle.meaning.specs.Case.{Case, IsCase, allowance_of, matrix_bytes, candidate_bytes}
+use Rattle.meaning.specs.Case.{Case, IsCase, matrix_bytes, candidate_bytes}
 use Rattle.meaning.specs.Writing.{WriteCall}
 use Rattle.meaning.proofs.Case.{flatten_length, case_sound}
 use Rattle.meaning.proofs.Written.{padded_take}

@@ -1,12 +1,8 @@
 -- `kinarsop_image` meets its contract: an answer is read as `calls::image` gave it, and the buffer is as that left it. Assumes nothing.
-use mathlib.Core.Path.{subst}
 use mathlib.Core.List.{List, []}
 use Prim.Native.Nat.{ℕ}
 use Rattle.meaning.specs.Calls.{Answer, ImageCall}
-use Rattle.calls.specs.Answers.{imaged_of}
-use Rattle.calls.specs.declared.Imaged.{Imaged}
 use Rattle.kinarsop.proofs.AsGiven.{answered_as, answered_alone, refused_as, refused_alone}
-use borrow.Author.Rules.{rules}
 use Rattle.kinarsop.proofs.kinarsop_image.Goals as goal
 use Rattle.kinarsop.proofs.kinarsop_image.Goals.{Start}
 
@@ -20,17 +16,17 @@ pub returns-in-Written : goal.returns-in-Written
 returns-in-Written c =
     let e = c.answered.ensures in
     let given = c.in-Written.ensures in
-     record {
-  image_call = answered_as (Meets (goal.at.returns-in-Written c).Start _) e given;
-  alone = answered_alone [] e;
-}
+    record {
+      image_call = answered_as (Meets (goal.at.returns-in-Written c).Start _) e given;
+      alone = answered_alone [] e;
+    }
 
 pub returns-in-Refused : goal.returns-in-Refused
 returns-in-Refused c =
     let q = c.in-Refused.reason in
     let e = c.as_numbers.ensures in
     let refused = c.in-Refused.ensures in
-     record {
-  image_call = refused_as q _ (Meets (goal.at.returns-in-Refused c).Start _) e refused;
-  alone = refused_alone q [] e tt;
-}
+    record {
+      image_call = refused_as q _ (Meets (goal.at.returns-in-Refused c).Start _) e refused;
+      alone = refused_alone q [] e tt;
+    }

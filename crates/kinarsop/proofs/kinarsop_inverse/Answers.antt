@@ -1,13 +1,10 @@
 -- `kinarsop_inverse` meets its contract: an answer is read as `calls::inverse` gave it. Assumes nothing.
-use mathlib.Core.Path.{refl, subst}
+use mathlib.Core.Path.{refl}
 use mathlib.Core.List.{[], ◌∷◌}
 use mathlib.Core.Option.{Option}
 use Prim.Native.Nat.{ℕ}
 use Rattle.meaning.specs.Calls.{Answer, InverseCall}
-use Rattle.calls.specs.Answers.{inverted_of}
-use Rattle.calls.specs.declared.Inverted.{Inverted}
 use Rattle.kinarsop.proofs.AsGiven.{answered_as, answered_alone, refused_as, refused_alone, inverse_read_lem}
-use borrow.Author.Rules.{rules}
 use Rattle.kinarsop.proofs.kinarsop_inverse.Goals as goal
 use Rattle.kinarsop.proofs.kinarsop_inverse.Goals.{Start}
 
@@ -22,26 +19,26 @@ returns-in-Inverse c =
     let x = c.args in
     let e = c.answered.ensures in
     let given = inverse_read_lem x.p x.a _ c.in-Inverse.ensures in
-     record {
-  inverse_call = answered_as (Meets (goal.at.returns-in-Inverse c).Start) e given;
-  alone = answered_alone (_ ∷ []) e;
-}
+    record {
+      inverse_call = answered_as (Meets (goal.at.returns-in-Inverse c).Start) e given;
+      alone = answered_alone (_ ∷ []) e;
+    }
 
 pub returns-in-None : goal.returns-in-None
 returns-in-None c =
     let e = c.answered-in-None.ensures in
     let given = c.in-None.ensures in
-     record {
-  inverse_call = answered_as (Meets (goal.at.returns-in-None c).Start) e given;
-  alone = answered_alone (_ ∷ []) e;
-}
+    record {
+      inverse_call = answered_as (Meets (goal.at.returns-in-None c).Start) e given;
+      alone = answered_alone (_ ∷ []) e;
+    }
 
 pub returns-in-Refused : goal.returns-in-Refused
 returns-in-Refused c =
     let q = c.in-Refused.reason in
     let e = c.as_numbers.ensures in
     let refused = c.in-Refused.ensures in
-     record {
-  inverse_call = refused_as q _ (Meets (goal.at.returns-in-Refused c).Start) e refused;
-  alone = refused_alone q (0 ∷ []) e (refl, tt);
-}
+    record {
+      inverse_call = refused_as q _ (Meets (goal.at.returns-in-Refused c).Start) e refused;
+      alone = refused_alone q (0 ∷ []) e (refl, tt);
+    }

@@ -4,11 +4,8 @@ use mathlib.Core.List.{List, [], ◌∷◌}
 use Prim.Native.Nat.{ℕ}
 use Rattle.meaning.specs.Calls.{Answer, StandCall}
 use Rattle.meaning.specs.Stand.{Outcome}
-use Rattle.calls.specs.Answers.{stood_of}
-use Rattle.calls.specs.declared.Stood.{Stood}
 use Rattle.kinarsop.specs.Face.{stand_numbers}
 use Rattle.kinarsop.proofs.AsGiven.{answered_alone, refused_as, refused_alone}
-use borrow.Author.Rules.{rules}
 use Rattle.kinarsop.proofs.kinarsop_stand.Goals as goal
 use Rattle.kinarsop.proofs.kinarsop_stand.Goals.{Start}
 
@@ -21,25 +18,25 @@ Meets S new answer =
 pub returns-in-Proved : goal.returns-in-Proved
 returns-in-Proved c =
     let given = c.in-Proved.ensures in
-     record {
-  stand_call = subst (Meets (goal.at.returns-in-Proved c).Start _) (sym c.counted.ensures.result_value) given;
-  alone = answered_alone (stand_numbers c.counted.result) c.counted.ensures.refusal_value;
-}
+    record {
+      stand_call = subst (Meets (goal.at.returns-in-Proved c).Start _) (sym c.counted.ensures.result_value) given;
+      alone = answered_alone (stand_numbers c.counted.result) c.counted.ensures.refusal_value;
+    }
 
 pub returns-in-Short : goal.returns-in-Short
 returns-in-Short c =
     let given = c.in-Short.ensures in
-     record {
-  stand_call = subst (Meets (goal.at.returns-in-Short c).Start _) (sym c.counted-in-Short.ensures.result_value) given;
-  alone = answered_alone (stand_numbers c.counted-in-Short.result) c.counted-in-Short.ensures.refusal_value;
-}
+    record {
+      stand_call = subst (Meets (goal.at.returns-in-Short c).Start _) (sym c.counted-in-Short.ensures.result_value) given;
+      alone = answered_alone (stand_numbers c.counted-in-Short.result) c.counted-in-Short.ensures.refusal_value;
+    }
 
 pub returns-in-Refused : goal.returns-in-Refused
 returns-in-Refused c =
     let q = c.in-Refused.reason in
     let e = c.as_numbers.ensures in
     let refused = c.in-Refused.ensures in
-     record {
-  stand_call = refused_as q _ (Meets (goal.at.returns-in-Refused c).Start _) e refused;
-  alone = refused_alone q (0 ∷ 0 ∷ 0 ∷ 0 ∷ 0 ∷ []) e (refl, (refl, (refl, (refl, (refl, tt)))));
-}
+    record {
+      stand_call = refused_as q _ (Meets (goal.at.returns-in-Refused c).Start _) e refused;
+      alone = refused_alone q (0 ∷ 0 ∷ 0 ∷ 0 ∷ 0 ∷ []) e (refl, (refl, (refl, (refl, (refl, tt)))));
+    }

@@ -1,13 +1,10 @@
 -- `kinarsop_write` meets its contract: an answer is read as `writer::write` gave it, and the buffer is as that left it. Assumes nothing.
-use mathlib.Core.Path.{refl, subst}
+use mathlib.Core.Path.{refl}
 use mathlib.Core.List.{List, [], ◌∷◌}
 use Prim.Native.Nat.{ℕ}
 use Rattle.meaning.specs.Calls.{Answer}
 use Rattle.meaning.specs.Writing.{WriteCall}
-use Rattle.writer.specs.Answers.{written_of}
-use Rattle.writer.specs.declared.Written.{Written}
 use Rattle.kinarsop.proofs.AsGiven.{answered_as, answered_alone, refused_as, refused_alone}
-use borrow.Author.Rules.{rules}
 use Rattle.kinarsop.proofs.kinarsop_write.Goals as goal
 use Rattle.kinarsop.proofs.kinarsop_write.Goals.{Start}
 
@@ -21,17 +18,17 @@ pub returns-in-Length : goal.returns-in-Length
 returns-in-Length c =
     let e = c.answered.ensures in
     let given = c.in-Length.ensures in
-     record {
-  write_call = answered_as (Meets (goal.at.returns-in-Length c).Start _) e given;
-  alone = answered_alone (_ ∷ []) e;
-}
+    record {
+      write_call = answered_as (Meets (goal.at.returns-in-Length c).Start _) e given;
+      alone = answered_alone (_ ∷ []) e;
+    }
 
 pub returns-in-Refused : goal.returns-in-Refused
 returns-in-Refused c =
     let q = c.in-Refused.reason in
     let e = c.as_numbers.ensures in
     let refused = c.in-Refused.ensures in
-     record {
-  write_call = refused_as q _ (Meets (goal.at.returns-in-Refused c).Start _) e refused;
-  alone = refused_alone q (0 ∷ []) e (refl, tt);
-}
+    record {
+      write_call = refused_as q _ (Meets (goal.at.returns-in-Refused c).Start _) e refused;
+      alone = refused_alone q (0 ∷ []) e (refl, tt);
+    }

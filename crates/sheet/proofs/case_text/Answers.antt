@@ -5,11 +5,10 @@ use native.Mathlib.Omega.{arith}
 use Rattle.meaning.specs.Line.{Line, text}
 use Rattle.meaning.specs.Sheet.{field_line}
 use Prim.Native.Nat.{ℕ}
-use Rattle.text.specs.Text.{HasRoom, Appended}
+use Rattle.text.specs.Text.{Appended}
 use Rattle.text.proofs.Laws.{Toward, toward_start, toward_last, line_turn, line_room, lines_turn, lines_room, last_room, empty_room, empty_text}
 use Rattle.sheet.specs.Lines.{stood_lines, chained_lines, perioded_lines}
 use Rattle.sheet.proofs.Answers.{CaseAnswers, CaseLines, case_lines_lem}
-use borrow.Author.Rules.{rules}
 use Rattle.sheet.proofs.case_text.Goals as goal
 use Rattle.sheet.proofs.case_text.Goals.{After-chain_lines-linked, After-period-perioded}
 

@@ -2,14 +2,10 @@
 use mathlib.Core.Path.{sym, subst}
 use mathlib.Core.List.{[], ◌∷◌}
 use native.Mathlib.Omega.{arith}
-use borrow.Author.Rules.{rules}
-use lib.Seq.{length-take-le}
 use Rattle.meaning.specs.Line.{text}
 use Rattle.meaning.proofs.Line.{text_append}
-use Rattle.text.specs.declared.Text.{Text}
 use Rattle.text.specs.Text.{HasRoom, Appended}
 use Rattle.text.proofs.Laws.{Toward, toward_start, toward_turn, toward_end, toward_room, line_turn, line_room}
-use Rattle.calls.specs.declared.Chained.{Chained}
 use Rattle.calls.specs.declared.Chained.TheVariants as chained
 use Rattle.sheet.specs.Lines.{stage_lines_in, product_line, chained_lines, ChainedFits}
 use Rattle.sheet.proofs.chain_lines.Goals as goal

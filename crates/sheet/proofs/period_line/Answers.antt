@@ -2,13 +2,10 @@
 use mathlib.Core.Path.{refl, sym, subst}
 use mathlib.Core.List.{[]}
 use mathlib.Core.Option.{some}
-use borrow.Author.Rules.{rules}
 use Rattle.meaning.specs.Line.{spaced, line_bytes, text}
 use Rattle.meaning.specs.Sheet.{period_line}
-use Rattle.text.specs.declared.Text.{Text}
 use Rattle.text.specs.Text.{HasRoom, Appended}
 use Rattle.text.proofs.Laws.{toward_start, toward_turn, toward_end, toward_room, line_turn, line_room}
-use Rattle.calls.specs.declared.Perioded.{Perioded}
 use Rattle.sheet.specs.Lines.{perioded_lines}
 use Rattle.sheet.proofs.period_line.Goals as goal
 

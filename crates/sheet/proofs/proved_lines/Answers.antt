@@ -1,8 +1,6 @@
 -- `sheet::proved_lines` meets its contract: one line after another. Assumes nothing.
-use mathlib.Core.Path.{refl, sym}
+use mathlib.Core.Path.{refl}
 use mathlib.Core.List.{[], ◌∷◌}
-use lib.Seq.{length-take-le}
-use borrow.Author.Rules.{rules}
 use Rattle.meaning.specs.Line.{spaced, line_bytes, text}
 use Rattle.text.proofs.Laws.{Toward, toward_start, toward_turn, toward_end, toward_room, line_turn, line_room}
 use Rattle.sheet.specs.Lines.{counts_line, factor_line, unwitnessed_line, proved_lines}

@@ -2,7 +2,6 @@
 use mathlib.Core.Path.{sym}
 use mathlib.Core.List.{[], ◌∷◌}
 use lib.Seq.{length-take-le}
-use borrow.Author.Rules.{rules}
 use Rattle.meaning.specs.Line.{text}
 use Rattle.text.proofs.Laws.{Toward, toward_start, toward_end, line_turn, line_room}
 use Rattle.sheet.specs.Lines.{counts_line, factor_line, image_line, short_lines}

@@ -1,7 +1,6 @@
 -- `sheet::stage_line` meets its contract: the word, the coefficients, the leading 1, the newline. Assumes nothing.
 use mathlib.Core.Path.{refl}
 use mathlib.Core.List.{[], ◌∷◌, ◌++◌}
-use borrow.Author.Rules.{rules}
 use Rattle.meaning.specs.Ascii.{ascii}
 use Rattle.meaning.specs.Line.{spaced}
 use Rattle.meaning.proofs.Line.{spaced-next}

@@ -7,7 +7,7 @@ use lib.ListN.{get_or, take, drop}
 use Prim.Native.Nat.{◌+◌, ◌-◌}
 use Rattle.meaning.specs.Line.{Line, text}
 use Rattle.text.proofs.Laws.{Toward, toward_start, toward_end, line_turn, line_room}
-use Rattle.sheet.specs.Lines.{StagesIn, stage_lines_in}
+use Rattle.sheet.specs.Lines.{stage_lines_in}
 use Rattle.sheet.proofs.Laws.{StageAt, record_line, stage_at, stages_none}
 use Rattle.sheet.proofs.stage_lines.Goals as goal
 use Rattle.sheet.proofs.stage_lines.Goals.{In-loop-left}

@@ -1,7 +1,6 @@
 -- `sheet::witness_line` meets its contract: the word, the index, the entries, the newline. Assumes nothing.
 use mathlib.Core.Path.{refl}
 use mathlib.Core.List.{[], ◌∷◌, ◌++◌}
-use borrow.Author.Rules.{rules}
 use Rattle.meaning.specs.Ascii.{ascii}
 use Rattle.meaning.specs.Line.{spaced}
 use Rattle.meaning.proofs.Line.{spaced-next}
