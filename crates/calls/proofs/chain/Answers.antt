@@ -1,6 +1,6 @@
 -- `calls::chain` meets its contract: where the refusal is none, the inputs are sound; the stages come from `stages`, and their product and their
 -- record are put to the front of their buffers. Assumes nothing.
-use mathlib.Core.Path.{◌≡◌, sym, ap, ◌∙◌}
+use mathlib.Core.Path.{◌≡◌, sym}
 use mathlib.Core.Option.{none}
 use Prim.Native.Nat.{◌+◌, ◌≤◌}
 use native.Mathlib.Omega.{arith}
@@ -12,7 +12,6 @@ use Rattle.meaning.proofs.Refusal.{chain_sound}
 use Rattle.meaning.proofs.Called.{refused_by, given_by}
 use Rattle.meaning.specs.Bounds.{widest, coefficients}
 use Rattle.meaning.specs.Chain.{stage_room}
-use Rattle.reasons.specs.Reasons.{checked_of}
 use Rattle.calls.proofs.Laws.{chain-written}
 use Rattle.calls.proofs.chain.Goals as goal
 use Rattle.calls.proofs.chain.Goals.{After-link-links, In_default}
@@ -30,12 +29,12 @@ overflow_cast-p c = omega (arith, chain_sound _ _ _ _ _ _ (sym c.in_default.ensu
 pub link-links-requires : goal.link-links-requires
 link-links-requires c =
     let S = chain_sound _ _ _ _ _ _ (sym c.in_default.ensures) in
-     record {
-  prime = S.0.prime;
-  le_n = (S.0.some_size, S.0.size);
-  m_len = S.0.matrix;
-  cs_len = S.1.whole;
-}
+    record {
+      prime = S.0.prime;
+      le_n = (S.0.some_size, S.0.size);
+      m_len = S.0.matrix;
+      cs_len = S.1.whole;
+    }
 
 -- the coefficients, the record and the buffers have their places
 room : (c : After-link-links) → let x = c.args in

@@ -1,10 +1,9 @@
 -- `calls::image` meets its contract: where the refusal is none, the inputs are sound, and the worker writes the front of the buffer.
 -- Assumes nothing.
-use mathlib.Core.Path.{◌≡◌, sym, ap, ◌∙◌}
+use mathlib.Core.Path.{◌≡◌, sym, ◌∙◌}
 use mathlib.Core.Option.{none}
 use Prim.Native.Nat.{◌≤◌}
 use native.Mathlib.Omega.{arith}
-use borrow.Author.Rules.{rules}
 use lib.ListN.{length}
 use lib.Seq.{length-take-le}
 use Rattle.meaning.specs.Refusal.{image_refusal}
@@ -13,7 +12,6 @@ use Rattle.meaning.proofs.Refusal.{image_sound}
 use Rattle.meaning.proofs.Called.{refused_by, given_by}
 use Rattle.meaning.proofs.Written.{front_write}
 use Rattle.meaning.specs.Bounds.{widest}
-use Rattle.reasons.specs.Reasons.{checked_of}
 use Rattle.calls.proofs.image.Goals as goal
 use Rattle.calls.proofs.image.Goals.{In_default}
 
@@ -39,13 +37,13 @@ image-requires c =
     let x = c.args in
     let S = image_sound _ _ _ _ _ _ (taken (goal.at.image-requires c).In_default) in
     let v : length x.v.now ≡ x.n = S.1 in
-    let most : x.n ≤ widest = S.0.size in  record {
-  p_nonzero = omega (arith, S.0.prime.big);
-  v_len_bound = omega arith;
-  m_len = rw v S.0.matrix;
-  in_bounds = (S.2, S.3);
-  out_len = length-take-le x.n x.out.now S.6 ∙ sym v;
-}
+    let most : x.n ≤ widest = S.0.size in record {
+      p_nonzero = omega (arith, S.0.prime.big);
+      v_len_bound = omega arith;
+      m_len = rw v S.0.matrix;
+      in_bounds = (S.2, S.3);
+      out_len = length-take-le x.n x.out.now S.6 ∙ sym v;
+    }
 
 pub returns : goal.returns
 returns c =

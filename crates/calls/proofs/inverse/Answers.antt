@@ -1,12 +1,10 @@
 -- `calls::inverse` meets its contract: where the refusal is none, the scalar is below a prime; it is 0, or has an inverse. Assumes nothing.
-use mathlib.Core.Path.{◌≡◌, sym, ap, ◌∙◌}
+use mathlib.Core.Path.{◌≡◌, sym}
 use mathlib.Core.Option.{none}
 use native.Mathlib.Nat.{pos_of_ne-zero}
 use native.Mathlib.Omega.{arith}
-use borrow.Author.Rules.{rules}
 use Rattle.meaning.specs.Refusal.{inverse_refusal}
 use Rattle.meaning.proofs.Refusal.{inverse_sound}
-use Rattle.reasons.specs.Reasons.{checked_of}
 use Rattle.meaning.proofs.Called.{refused_by, given_by}
 use Rattle.calls.proofs.inverse.Goals as goal
 use Rattle.calls.proofs.inverse.Goals.{In_default}
@@ -29,11 +27,11 @@ overflow_cast-a c = omega (arith, inverse_sound _ _ (taken (goal.at.overflow_cas
 pub inverse-requires : goal.inverse-requires
 inverse-requires c =
     let S = inverse_sound _ _ (taken (goal.at.inverse-requires c).In_default) in
-     record {
-  prime = S.0;
-  a_nonzero = pos_of_ne-zero c.if-a-eq0.false;
-  a_lt_p = S.2;
-}
+    record {
+      prime = S.0;
+      a_nonzero = pos_of_ne-zero c.if-a-eq0.false;
+      a_lt_p = S.2;
+    }
 
 pub returns : goal.returns
 returns c = given_by (taken (goal.at.returns c).In_default) (c.if-a-eq0.false, c.inverse.ensures)

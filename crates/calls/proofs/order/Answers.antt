@@ -1,18 +1,15 @@
 -- `calls::order` meets its contract: where the refusal is none, the inputs are sound; spun over no rows, the row's relative order is its order,
 -- and its first n + 1 coefficients are put to the front of the buffer. Assumes nothing.
-use mathlib.Core.Path.{◌≡◌, sym, ap, ◌∙◌}
+use mathlib.Core.Path.{◌≡◌, sym}
 use mathlib.Core.Option.{none}
 use Prim.Native.Nat.{◌+◌, ◌≤◌}
 use native.Mathlib.Omega.{arith}
-use borrow.Author.Rules.{rules}
 use lib.ListN.{length, replicate, length-take}
-use lib.Seq.{length-take-le}
 use Rattle.meaning.specs.Refusal.{order_refusal}
 use Rattle.meaning.proofs.Refusal.{order_sound}
 use Rattle.meaning.proofs.Called.{refused_by, given_by}
 use Rattle.meaning.specs.Bounds.{widest, coefficients}
 use Rattle.spin.proofs.Laws.{before_empty, spinned_order}
-use Rattle.reasons.specs.Reasons.{checked_of}
 use Rattle.calls.proofs.Laws.{order_written}
 use Rattle.calls.proofs.order.Goals as goal
 use Rattle.calls.proofs.order.Goals.{After-spin-f, In_default}
@@ -31,13 +28,13 @@ spin-f-requires c =
     let x = c.args in
     let S = order_sound _ _ _ _ _ (taken (goal.at.spin-f-requires c).In_default) in
     let most : x.n ≤ widest = S.0.size in
-     record {
-  prime = S.0.prime;
-  n_le_widest = most;
-  m_len = S.0.matrix;
-  v_len = S.1;
-  before = before_empty x.p x.n x.m.now (replicate 12480 0) (omega arith);
-}
+    record {
+      prime = S.0.prime;
+      n_le_widest = most;
+      m_len = S.0.matrix;
+      v_len = S.1;
+      before = before_empty x.p x.n x.m.now (replicate 12480 0) (omega arith);
+    }
 
 -- the coefficients and the buffer have n + 1 places
 room : (c : After-spin-f) → let x = c.args in
@@ -54,7 +51,7 @@ pub slice_bounds-coefficients-end : goal.slice_bounds-coefficients-end
 slice_bounds-coefficients-end c = omega (arith, room (goal.at.slice_bounds-coefficients-end c).After-spin-f)
 
 pub slice_bounds-put-end : goal.slice_bounds-put-end
-slice_bounds-put-end c = sym (length-take-le _ _ (omega (arith, room (goal.at.slice_bounds-put-end c).After-spin-f)))
+slice_bounds-put-end c = simp length-take (omega (arith, room (goal.at.slice_bounds-put-end c).After-spin-f))
 
 pub put-requires : goal.put-requires
 put-requires c = simp length-take (omega (arith, room (goal.at.put-requires c).After-spin-f))

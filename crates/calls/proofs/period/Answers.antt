@@ -1,13 +1,9 @@
 -- `calls::period` meets its contract: where the refusal is none, the inputs are sound, and the worker's answer is the period. Assumes nothing.
-use mathlib.Core.Path.{◌≡◌, sym, ap, ◌∙◌, subst}
+use mathlib.Core.Path.{◌≡◌, sym}
 use mathlib.Core.Option.{none}
 use native.Mathlib.Omega.{arith}
-use borrow.Author.Rules.{rules}
-use Rattle.meaning.specs.Period.{IsPeriod}
 use Rattle.meaning.specs.Refusal.{period_refusal}
 use Rattle.meaning.proofs.Refusal.{period_sound}
-use Rattle.period.specs.Returning.{returns_of}
-use Rattle.reasons.specs.Reasons.{checked_of}
 use Rattle.meaning.proofs.Called.{refused_by, given_by}
 use Rattle.calls.proofs.period.Goals as goal
 use Rattle.calls.proofs.period.Goals.{In_default}
@@ -24,11 +20,11 @@ overflow_cast-p c = omega (arith, period_sound _ _ _ (sym c.in_default.ensures))
 pub period-requires : goal.period-requires
 period-requires c =
     let S = period_sound _ _ _ (sym c.in_default.ensures) in
-     record {
-  lt_p = S.prime.big;
-  n_le_widest = S.size;
-  m_len = S.matrix;
-}
+    record {
+      lt_p = S.prime.big;
+      n_le_widest = S.size;
+      m_len = S.matrix;
+    }
 
 pub returns-in-Least : goal.returns-in-Least
 returns-in-Least c =

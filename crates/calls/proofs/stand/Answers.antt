@@ -1,6 +1,6 @@
 -- `calls::stand` meets its contract: where the refusal is none, the inputs are sound; the rows taken and their lcm come from `taken`, its test from
 -- `witness`, and the polynomial and the witness's image are put to the front of their buffers. Assumes nothing.
-use mathlib.Core.Path.{◌≡◌, sym, ap, ap₂, ◌∙◌}
+use mathlib.Core.Path.{◌≡◌, sym, ap₂}
 use mathlib.Core.Option.{none}
 use Prim.Native.Nat.{◌+◌, ◌≤◌}
 use native.Mathlib.Omega.{arith}
@@ -18,7 +18,6 @@ use Rattle.meaning.proofs.Called.{refused_by, given_by}
 use Rattle.meaning.proofs.Standing.{tested_within, standing_proved, standing_short}
 use Rattle.poly.specs.Polynomial.{po}
 use Rattle.witness.specs.Killing.{Killing}
-use Rattle.reasons.specs.Reasons.{checked_of}
 use Rattle.calls.proofs.Laws.{outcome_of, stand-written, stand_as}
 use Rattle.algebra.proofs.Orders.{below_take}
 use Rattle.calls.proofs.stand.Goals as goal
@@ -38,13 +37,13 @@ pub take_rows-gathered-requires : goal.take_rows-gathered-requires
 take_rows-gathered-requires c =
     let S = stand_sound _ _ _ _ _ _ (taken (goal.at.take_rows-gathered-requires c).In_default) in
     let most = S.0.size in
-     record {
-  prime = S.0.prime;
-  le_n = (S.0.some_size, most);
-  m_len = S.0.matrix;
-  cs_len = S.1.whole;
-  slot_in_bounds = omega arith;
-}
+    record {
+      prime = S.0.prime;
+      le_n = (S.0.some_size, most);
+      m_len = S.0.matrix;
+      cs_len = S.1.whole;
+      slot_in_bounds = omega arith;
+    }
 
 -- F is the least polynomial that sends the taken rows to zero
 killing : (c : After-take_rows-gathered) → let x = c.args in Killing x.p x.n x.m.now c.take_rows-gathered.result.poly
@@ -62,13 +61,13 @@ killing c =
 pub witness-witness-requires : goal.witness-witness-requires
 witness-witness-requires c =
     let S = stand_sound _ _ _ _ _ _ (taken (goal.at.witness-witness-requires c).In_default) in
-     record {
-  prime = S.0.prime;
-  le_n = (S.0.some_size, S.0.size);
-  m_len = S.0.matrix;
-  killing = killing (goal.at.witness-witness-requires c).After-take_rows-gathered;
-  known = c.take_rows-gathered.ensures.known;
-}
+    record {
+      prime = S.0.prime;
+      le_n = (S.0.some_size, S.0.size);
+      m_len = S.0.matrix;
+      killing = killing (goal.at.witness-witness-requires c).After-take_rows-gathered;
+      known = c.take_rows-gathered.ensures.known;
+    }
 
 pub witness_row-row-requires : goal.witness_row-row-requires
 witness_row-row-requires c =
@@ -76,13 +75,13 @@ witness_row-row-requires c =
     let x = c.args in
     let h : c.witness-witness.result ≤ x.n =
     tested_within (times x.p x.n x.m.now) x.n (po x.p c.take_rows-gathered.result.poly) c.witness-witness.result c.witness-witness.ensures in
-     record {
-  prime = S.0.prime;
-  n_le_widest = S.0.size;
-  m_len = S.0.matrix;
-  good = c.take_rows-gathered.ensures.gathered.good;
-  w_le_n = omega arith;
-}
+    record {
+      prime = S.0.prime;
+      n_le_widest = S.0.size;
+      m_len = S.0.matrix;
+      good = c.take_rows-gathered.ensures.gathered.good;
+      w_le_n = omega arith;
+    }
 
 -- the coefficients, the image and the buffers have their places
 room : (c : After-witness_row-row) → let x = c.args in
