@@ -6,7 +6,7 @@
 
    BUILD. With the Rattle toolchain, for x86-64 Linux:
 
-       rt staticlib kinarsop
+       ./library
        cc -Iinclude x.c target/staticlib/libkinarsop.a
 
    BYTES. An entry is one byte from 0 to p - 1. A matrix is lent row after row, a list of rows too,

@@ -3,7 +3,7 @@
 use std::env;
 use std::path::{Path, PathBuf};
 
-/// Where `rt staticlib kinarsop` leaves the library, from this package.
+/// Where `./library` leaves the library, from this package.
 const BUILT: &str = "../../target/staticlib";
 
 /// The folder that the environment names, else the one where the library is built.
@@ -34,8 +34,8 @@ fn main() {
         );
     } else if !library.is_file() {
         println!(
-            "cargo:warning={} is not there, so nothing is linked: run `rt staticlib kinarsop` at \
-             the repository's root, or name the library's folder in KINARSOP_LIB",
+            "cargo:warning={} is not there, so nothing is linked: run `./library` at the \
+             repository's root, or name the library's folder in KINARSOP_LIB",
             library.display()
         );
     } else {

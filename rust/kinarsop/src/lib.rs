@@ -34,7 +34,7 @@
 //! The library is the file `libkinarsop.a`, for x86-64 Linux. At the root of Kinarsop's repository
 //!
 //! ```text
-//! rt staticlib kinarsop
+//! ./library
 //! ```
 //!
 //! leaves it in `target/staticlib`, where this crate looks for it. To link one that lies elsewhere, name its folder, by its whole path, in the
