@@ -31,7 +31,7 @@ use Rattle.meaning.specs.Calls.{given}
 use Rattle.meaning.specs.Line.{decimal, Line, spaced, line_bytes, text}
 use Rattle.meaning.specs.Sheet.{field_line, stand_lines, stage_line, chain_line, period_line, refused_line, SheetLines, sheet_room, SheetCall}
 use Rattle.meaning.proofs.Bytes.{bytes_length, bytes_small, rows_count, times_linear}
-use Rattle.meaning.proofs.Degrees.{orders_count, stand_degree, chain-total}
+use Rattle.meaning.proofs.Degrees.{orders_count, stand_degree, chain_total}
 use Rattle.meaning.proofs.Line.{decimal_length, text_append}
 use Rattle.meaning.proofs.Refusal.{refuse_here, refuse_none, first_here, first_next, first_end, long-too_short}
 use Rattle.meaning.proofs.Called.{called_given}
@@ -174,7 +174,7 @@ sheet_lines_room {p} n m cs a xs A B h L =
       field,
       stood,
       staged,
-      chain-total P n m cs st L.chain,
+      chain_total P n m cs st L.chain,
       stages_positive _ _ st (times_linear p n m) L.chain,
       chained,
       period_line_length p n m L.period L.returns,
