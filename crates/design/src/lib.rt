@@ -63,6 +63,7 @@ pub enum Made {
 }
 
 // The words that may come where a line begins.
+#[tactic(auto, unfolding(crate::specs::Expecting::expected_of))]
 fn due_word(h: Head) -> Expected
     ensures { expected_as result ≡ expected_of (Letter h) }
 {
@@ -80,6 +81,7 @@ fn due_word(h: Head) -> Expected
 }
 
 // What may come in a state of the scan. Nothing comes behind E, and a text says no such state before its end.
+#[tactic(auto, using(crate::proofs::Tests::due_line_end), unfolding(crate::specs::Expecting::expected_of))]
 fn due(q: State) -> Expected
     ensures { expected_as result ≡ expected_of q }
 {
