@@ -1,5 +1,4 @@
 -- `cells::before_return` meets its contract. Assumes nothing.
-use borrow.Author.Rules.{rules}
 use Rattle.cells.proofs.Laws.{return_none, return_cut, return_kept}
 use Rattle.cells.proofs.before_return.Goals as goal
 

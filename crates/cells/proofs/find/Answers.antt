@@ -1,10 +1,6 @@
 -- `cells::find` meets its contract. Invariant: from `from` to the place reached there is no byte b. Measure: what is left of the bytes.
 -- Assumes nothing.
-use mathlib.Core.Path.{◌≡◌}
-use Prim.Native.Nat.{ℕ, ◌-◌, ◌<◌, ◌≤◌}
-use borrow.Author.Rules.{rules}
 use native.Mathlib.Omega.{arith}
-use lib.ListN.{length, get_or}
 use borrow.Author.Count.{below_more}
 use Rattle.cells.proofs.Laws.{piece_at}
 use Rattle.cells.proofs.find.Goals as goal

@@ -2,11 +2,7 @@
 -- Assumes nothing.
 use mathlib.Core.Path.{◌≡◌}
 use Prim.Native.Nat.{ℕ, ◌-◌, ◌<◌, ◌≤◌}
-use borrow.Author.Rules.{rules}
-use native.Mathlib.Omega.{arith}
 use lib.ListN.{length, get_or}
-use borrow.Author.Count.{below_more}
-use Rattle.cells.proofs.Laws.{piece_at}
 use Rattle.cells.proofs.find.Given as goal
 
 abbrev pub invariant-loop-i : goal.invariant-loop-i

@@ -1,7 +1,6 @@
 -- `cells::front` meets its contract. Assumes nothing.
 use mathlib.Core.Path.{sym, ◌∙◌}
 use native.Mathlib.Omega.{arith}
-use borrow.Author.Rules.{rules}
 use lib.Seq.{length-take-le}
 use Rattle.cells.proofs.Laws.{mark_taken, mark_none, mark_short}
 use Rattle.cells.proofs.front.Goals as goal

@@ -1,6 +1,5 @@
 -- `cells::letter` meets its contract: by the answers to the words before, each of which was another. Assumes nothing.
 use mathlib.Core.Path.{refl, sym, ◌∙◌}
-use borrow.Author.Rules.{rules}
 use Rattle.cells.proofs.Laws.{letter_told}
 use Rattle.cells.proofs.letter.Goals as goal
 

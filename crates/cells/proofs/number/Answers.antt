@@ -3,13 +3,12 @@
 use mathlib.Core.Path.{◌≡◌, sym, ap, ◌∙◌}
 use mathlib.Core.Bool.{true}
 use mathlib.Core.Option.{some}
-use Prim.Native.Nat.{ℕ, ◌+◌, ◌*◌, ◌-◌, ◌≤◌}
-use borrow.Author.Rules.{rules}
+use Prim.Native.Nat.{ℕ, ◌+◌, ◌*◌, ◌≤◌}
 use borrow.Author.Tests.{not-true, not-false}
 use native.Mathlib.Omega.{arith}
-use lib.ListN.{length, get_or, drop}
-use Rattle.meaning.specs.Design.{is_digit, number_from, number_in}
-use Rattle.cells.specs.Cells.{too_large, capped}
+use lib.ListN.{get_or}
+use Rattle.meaning.specs.Design.{is_digit}
+use Rattle.cells.specs.Cells.{capped}
 use Rattle.cells.proofs.Laws.{capped_most, digit_range, number_none, number_start, number_turn, number_other, number_end}
 use Rattle.cells.proofs.number.Goals as goal
 use Rattle.cells.proofs.number.Goals.{Else-not-is_digit}

@@ -1,16 +1,10 @@
 -- `cells::number` meets its contract. Invariant: the cell says, capped, what the digits that are left say behind the value. Measure: the digits left.
 -- Assumes nothing.
-use mathlib.Core.Path.{◌≡◌, sym, ap, ◌∙◌}
-use mathlib.Core.Bool.{true}
-use mathlib.Core.Option.{some}
-use Prim.Native.Nat.{ℕ, ◌+◌, ◌*◌, ◌-◌, ◌≤◌}
-use borrow.Author.Rules.{rules}
-use borrow.Author.Tests.{not-true, not-false}
-use native.Mathlib.Omega.{arith}
-use lib.ListN.{length, get_or, drop}
-use Rattle.meaning.specs.Design.{is_digit, number_from, number_in}
+use mathlib.Core.Path.{◌≡◌}
+use Prim.Native.Nat.{◌-◌, ◌≤◌}
+use lib.ListN.{length, drop}
+use Rattle.meaning.specs.Design.{number_from, number_in}
 use Rattle.cells.specs.Cells.{too_large, capped}
-use Rattle.cells.proofs.Laws.{capped_most, digit_range, number_none, number_start, number_turn, number_other, number_end}
 use Rattle.cells.proofs.number.Given as goal
 
 abbrev pub invariant-loop-i : goal.invariant-loop-i

@@ -1,12 +1,7 @@
 -- `cells::same_bytes` meets its contract. Invariant: the bytes before place i are equal. Measure: what is left of the bytes. Assumes nothing.
-use mathlib.Core.Path.{◌≡◌, sym, ap}
+use mathlib.Core.Path.{◌≡◌}
 use Prim.Native.Nat.{ℕ, ◌-◌, ◌<◌}
-use borrow.Author.Rules.{rules}
-use native.Mathlib.Omega.{arith}
 use lib.ListN.{length, get_or}
-use lib.Seq.{ext_get_or}
-use borrow.Author.Count.{below_none, below_more}
-use Rattle.cells.proofs.Laws.{same_self, same_other}
 use Rattle.cells.proofs.same_bytes.Given as goal
 
 abbrev pub invariant-loop-i : goal.invariant-loop-i

@@ -1,11 +1,7 @@
 -- `cells::separator` meets its contract. Invariant: the first separator of the text is that of what is left of it. Measure: what is left of the text.
 -- Assumes nothing.
-use mathlib.Core.Path.{◌≡◌, refl, sym, ◌∙◌}
-use Prim.Native.Nat.{◌-◌}
-use borrow.Author.Rules.{rules}
+use mathlib.Core.Path.{refl, sym, ◌∙◌}
 use native.Mathlib.Omega.{arith}
-use lib.ListN.{length, drop}
-use Rattle.meaning.specs.Design.{separator_in}
 use Rattle.cells.proofs.Laws.{separator_found, separator_turn, separator_end}
 use Rattle.cells.proofs.separator.Goals as goal
 

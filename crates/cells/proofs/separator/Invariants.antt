@@ -1,12 +1,9 @@
 -- `cells::separator` meets its contract. Invariant: the first separator of the text is that of what is left of it. Measure: what is left of the text.
 -- Assumes nothing.
-use mathlib.Core.Path.{◌≡◌, refl, sym, ◌∙◌}
+use mathlib.Core.Path.{◌≡◌}
 use Prim.Native.Nat.{◌-◌}
-use borrow.Author.Rules.{rules}
-use native.Mathlib.Omega.{arith}
 use lib.ListN.{length, drop}
 use Rattle.meaning.specs.Design.{separator_in}
-use Rattle.cells.proofs.Laws.{separator_found, separator_turn, separator_end}
 use Rattle.cells.proofs.separator.Given as goal
 
 abbrev pub invariant-loop-i : goal.invariant-loop-i

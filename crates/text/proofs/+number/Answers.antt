@@ -1,7 +1,7 @@
 -- `text::number` meets its contract: a number below 10 is one digit; any other is its tenth, laid down first, and its last digit. Assumes nothing.
 use mathlib.Core.Path.{sym, subst}
 use mathlib.Core.List.{[], ◌∷◌}
-use Prim.Native.Nat.{ℕ, ◌+◌, ◌%◌, ◌<◌}
+use Prim.Native.Nat.{ℕ, ◌+◌, ◌%◌}
 use native.Mathlib.Omega.{arith}
 use Rattle.meaning.specs.Line.{digit, decimal}
 use Rattle.meaning.proofs.Line.{decimal_one, decimal_more}
