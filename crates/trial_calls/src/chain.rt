@@ -1,8 +1,9 @@
 // The call of the chain: p | n | matrix | candidates | product buffer | stage buffer.
 use crate::{modulus, refuse, show, size, skip};
 use calls::Chained;
+use std::io;
 
-pub fn answer(line: &[u8]) {
+pub fn answer(rt: &impl Print, line: &[u8]) -> io::Result<()> {
     let mut m = [0u8; 4608];
     let matrix = trial_lines::fill(trial_lines::group(line, 2), &mut m);
     let k = matrix.count;
@@ -10,13 +11,13 @@ pub fn answer(line: &[u8]) {
     let candidates = trial_lines::fill(trial_lines::group(line, 3), &mut cs);
     let d = candidates.count;
     if matrix.whole && candidates.whole {
-        answer_with(line, &m[..k], &cs[..d]);
+        answer_with(rt, line, &m[..k], &cs[..d])
     } else {
-        skip();
+        skip(rt)
     }
 }
 
-fn answer_with(line: &[u8], m: &[u8], cs: &[u8]) {
+fn answer_with(rt: &impl Print, line: &[u8], m: &[u8], cs: &[u8]) -> io::Result<()> {
     let mut f = [0u8; 400];
     let product = trial_lines::fill(trial_lines::group(line, 4), &mut f);
     let d = product.count;
@@ -24,21 +25,37 @@ fn answer_with(line: &[u8], m: &[u8], cs: &[u8]) {
     let stages = trial_lines::fill(trial_lines::group(line, 5), &mut s);
     let e = stages.count;
     if product.whole && stages.whole {
-        call(modulus(line), size(line), m, cs, &mut f[..d], &mut s[..e]);
+        call(
+            rt,
+            modulus(line),
+            size(line),
+            m,
+            cs,
+            &mut f[..d],
+            &mut s[..e],
+        )
     } else {
-        skip();
+        skip(rt)
     }
 }
 
-fn call(p: u32, n: usize, m: &[u8], cs: &[u8], product: &mut [u8], stages: &mut [u8]) {
+fn call(
+    rt: &impl Print,
+    p: u32,
+    n: usize,
+    m: &[u8],
+    cs: &[u8],
+    product: &mut [u8],
+    stages: &mut [u8],
+) -> io::Result<()> {
     let chained = calls::chain(p, n, m, cs, product, stages);
     match chained {
         Chained::Stages(count) => {
-            trial_lines::print(b" stages");
-            trial_lines::print_number(count as u64);
+            trial_lines::print(rt, b" stages")?;
+            trial_lines::print_number(rt, count as u64)?;
         }
-        Chained::Refused(reason) => refuse(reason),
+        Chained::Refused(reason) => refuse(rt, reason)?,
     }
-    show(product);
-    show(stages);
+    show(rt, product)?;
+    show(rt, stages)
 }

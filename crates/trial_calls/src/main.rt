@@ -6,12 +6,12 @@ mod chain;
 mod image;
 mod inverse;
 mod order;
-mod period;
+mod periods;
 mod stand;
 mod write;
 
-use libc::STDIN_FILENO;
 use reasons::Reason;
+use std::io;
 
 // The number that follows the line's word.
 fn modulus(line: &[u8]) -> u32 {
@@ -24,85 +24,79 @@ fn size(line: &[u8]) -> usize {
 }
 
 // A refusal's number, and where it has one the row and the column of the bad entry.
-fn refuse(reason: Reason) {
+fn refuse(rt: &impl Print, reason: Reason) -> io::Result<()> {
     let numbers = reasons::as_numbers(reason);
-    trial_lines::print(b" refused");
-    trial_lines::print_byte(numbers.number);
+    trial_lines::print(rt, b" refused")?;
+    trial_lines::print_byte(rt, numbers.number)?;
     if numbers.column != 0 {
-        trial_lines::print(b" row");
-        trial_lines::print_number(numbers.row as u64);
-        trial_lines::print(b" column");
-        trial_lines::print_number(numbers.column as u64);
+        trial_lines::print(rt, b" row")?;
+        trial_lines::print_number(rt, numbers.row as u64)?;
+        trial_lines::print(rt, b" column")?;
+        trial_lines::print_number(rt, numbers.column as u64)?;
     }
+    Ok(())
 }
 
 // A lent buffer, whole.
-fn show(buffer: &[u8]) {
-    trial_lines::print(b" |");
-    trial_lines::print_list(buffer);
+fn show(rt: &impl Print, buffer: &[u8]) -> io::Result<()> {
+    trial_lines::print(rt, b" |")?;
+    trial_lines::print_list(rt, buffer)
 }
 
 // A group of the line has more numbers than there is room for.
-fn skip() {
-    trial_lines::print(b" too long");
+fn skip(rt: &impl Print) -> io::Result<()> {
+    trial_lines::print(rt, b" too long")
 }
 
-fn answer(line: &[u8]) {
-    trial_lines::print(trial_lines::word(line));
+fn answer(rt: &impl Print, line: &[u8]) -> io::Result<()> {
+    trial_lines::print(rt, trial_lines::word(line))?;
     if trial_lines::named(line, b"inverse") {
-        inverse::answer(line);
-        return;
+        return inverse::answer(rt, line);
     }
     if trial_lines::named(line, b"order") {
-        order::answer(line);
-        return;
+        return order::answer(rt, line);
     }
     if trial_lines::named(line, b"image") {
-        image::answer(line);
-        return;
+        return image::answer(rt, line);
     }
     if trial_lines::named(line, b"stand") {
-        stand::answer(line);
-        return;
+        return stand::answer(rt, line);
     }
     if trial_lines::named(line, b"chain") {
-        chain::answer(line);
-        return;
+        return chain::answer(rt, line);
     }
     if trial_lines::named(line, b"period") {
-        period::answer(line);
-        return;
+        return periods::answer(rt, line);
     }
     if trial_lines::named(line, b"write") {
-        write::answer(line);
-        return;
+        return write::answer(rt, line);
     }
-    trial_lines::print(b" unknown");
+    trial_lines::print(rt, b" unknown")
 }
 
-fn run(line: &[u8]) {
+fn run(rt: &impl Print, line: &[u8]) -> io::Result<()> {
     if line.len() == 0 {
-        return;
+        return Ok(());
     }
     if line[0] == b'#' {
-        trial_lines::print(line);
-        return;
+        return trial_lines::print(rt, line);
     }
-    answer(line);
+    answer(rt, line)
 }
 
-fn run_all(text: &[u8]) {
+fn run_all(rt: &impl Print, text: &[u8]) -> io::Result<()> {
     let mut at = 0;
     while at < text.len() {
         let end = trial_lines::find(text, at, b'\n');
-        run(&text[at..end]);
-        trial_lines::end_line();
+        run(rt, &text[at..end])?;
+        trial_lines::end_line(rt)?;
         at = end + 1;
     }
+    Ok(())
 }
 
-fn main() {
+fn main(rt: HostRuntime) -> io::Result<()> {
     let mut text = [0u8; 131072];
-    let n = io::read_full(STDIN_FILENO, &mut text);
-    run_all(&text[..n]);
+    let n = input::read_all(&mut rt.reader(), &mut text).whole()?;
+    run_all(&rt, &text[..n])
 }

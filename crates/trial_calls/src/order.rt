@@ -1,8 +1,9 @@
 // The call of the order: p | n | matrix | row | buffer.
 use crate::{modulus, refuse, show, size, skip};
 use calls::Ordered;
+use std::io;
 
-pub fn answer(line: &[u8]) {
+pub fn answer(rt: &impl Print, line: &[u8]) -> io::Result<()> {
     let mut m = [0u8; 4608];
     let matrix = trial_lines::fill(trial_lines::group(line, 2), &mut m);
     let k = matrix.count;
@@ -13,20 +14,27 @@ pub fn answer(line: &[u8]) {
     let buffer = trial_lines::fill(trial_lines::group(line, 4), &mut out);
     let e = buffer.count;
     if matrix.whole && row.whole && buffer.whole {
-        call(modulus(line), size(line), &m[..k], &v[..d], &mut out[..e]);
+        call(
+            rt,
+            modulus(line),
+            size(line),
+            &m[..k],
+            &v[..d],
+            &mut out[..e],
+        )
     } else {
-        skip();
+        skip(rt)
     }
 }
 
-fn call(p: u32, n: usize, m: &[u8], v: &[u8], out: &mut [u8]) {
+fn call(rt: &impl Print, p: u32, n: usize, m: &[u8], v: &[u8], out: &mut [u8]) -> io::Result<()> {
     let ordered = calls::order(p, n, m, v, out);
     match ordered {
         Ordered::Degree(degree) => {
-            trial_lines::print(b" degree");
-            trial_lines::print_number(degree as u64);
+            trial_lines::print(rt, b" degree")?;
+            trial_lines::print_number(rt, degree as u64)?;
         }
-        Ordered::Refused(reason) => refuse(reason),
+        Ordered::Refused(reason) => refuse(rt, reason)?,
     }
-    show(out);
+    show(rt, out)
 }

@@ -1,8 +1,9 @@
 // The call of the stand: p | n | matrix | candidates | allowance | polynomial buffer | witness buffer.
 use crate::{modulus, refuse, show, size, skip};
 use calls::{Counts, Stood};
+use std::io;
 
-pub fn answer(line: &[u8]) {
+pub fn answer(rt: &impl Print, line: &[u8]) -> io::Result<()> {
     let mut m = [0u8; 4608];
     let matrix = trial_lines::fill(trial_lines::group(line, 2), &mut m);
     let k = matrix.count;
@@ -10,13 +11,13 @@ pub fn answer(line: &[u8]) {
     let candidates = trial_lines::fill(trial_lines::group(line, 3), &mut cs);
     let d = candidates.count;
     if matrix.whole && candidates.whole {
-        answer_with(line, &m[..k], &cs[..d]);
+        answer_with(rt, line, &m[..k], &cs[..d])
     } else {
-        skip();
+        skip(rt)
     }
 }
 
-fn answer_with(line: &[u8], m: &[u8], cs: &[u8]) {
+fn answer_with(rt: &impl Print, line: &[u8], m: &[u8], cs: &[u8]) -> io::Result<()> {
     let mut poly = [0u8; 400];
     let polynomial = trial_lines::fill(trial_lines::group(line, 5), &mut poly);
     let d = polynomial.count;
@@ -24,37 +25,44 @@ fn answer_with(line: &[u8], m: &[u8], cs: &[u8]) {
     let witness = trial_lines::fill(trial_lines::group(line, 6), &mut image);
     let e = witness.count;
     if polynomial.whole && witness.whole {
-        call(line, m, cs, &mut poly[..d], &mut image[..e]);
+        call(rt, line, m, cs, &mut poly[..d], &mut image[..e])
     } else {
-        skip();
+        skip(rt)
     }
 }
 
-fn call(line: &[u8], m: &[u8], cs: &[u8], poly: &mut [u8], image: &mut [u8]) {
+fn call(
+    rt: &impl Print,
+    line: &[u8],
+    m: &[u8],
+    cs: &[u8],
+    poly: &mut [u8],
+    image: &mut [u8],
+) -> io::Result<()> {
     let allowance = trial_lines::number(trial_lines::group(line, 4));
     let stood = calls::stand(modulus(line), size(line), m, cs, allowance, poly, image);
     match stood {
         Stood::Proved(counts) => {
-            trial_lines::print(b" proved");
-            show_counts(counts);
+            trial_lines::print(rt, b" proved")?;
+            show_counts(rt, counts)?;
         }
         Stood::Short(counts, witness) => {
-            trial_lines::print(b" short");
-            show_counts(counts);
-            trial_lines::print(b" witness");
-            trial_lines::print_number(witness as u64);
+            trial_lines::print(rt, b" short")?;
+            show_counts(rt, counts)?;
+            trial_lines::print(rt, b" witness")?;
+            trial_lines::print_number(rt, witness as u64)?;
         }
-        Stood::Refused(reason) => refuse(reason),
+        Stood::Refused(reason) => refuse(rt, reason)?,
     }
-    show(poly);
-    show(image);
+    show(rt, poly)?;
+    show(rt, image)
 }
 
-fn show_counts(c: Counts) {
-    trial_lines::print(b" degree");
-    trial_lines::print_number(c.degree as u64);
-    trial_lines::print(b" taken");
-    trial_lines::print_number(c.taken as u64);
-    trial_lines::print(b" spent");
-    trial_lines::print_number(c.spent as u64);
+fn show_counts(rt: &impl Print, c: Counts) -> io::Result<()> {
+    trial_lines::print(rt, b" degree")?;
+    trial_lines::print_number(rt, c.degree as u64)?;
+    trial_lines::print(rt, b" taken")?;
+    trial_lines::print_number(rt, c.taken as u64)?;
+    trial_lines::print(rt, b" spent")?;
+    trial_lines::print_number(rt, c.spent as u64)
 }

@@ -1,11 +1,12 @@
 // The call of the writer: p | n | matrix | candidates | allowance | buffer.
 use crate::{modulus, refuse, show, size, skip};
+use std::io;
 use writer::Written;
 
 // Room for a buffer that is somewhat longer than the longest case.
 const MOST_LENT: usize = 12800;
 
-pub fn answer(line: &[u8]) {
+pub fn answer(rt: &impl Print, line: &[u8]) -> io::Result<()> {
     let mut m = [0u8; 4608];
     let matrix = trial_lines::fill(trial_lines::group(line, 2), &mut m);
     let k = matrix.count;
@@ -13,31 +14,31 @@ pub fn answer(line: &[u8]) {
     let candidates = trial_lines::fill(trial_lines::group(line, 3), &mut cs);
     let d = candidates.count;
     if matrix.whole && candidates.whole {
-        answer_with(line, &m[..k], &cs[..d]);
+        answer_with(rt, line, &m[..k], &cs[..d])
     } else {
-        skip();
+        skip(rt)
     }
 }
 
-fn answer_with(line: &[u8], m: &[u8], cs: &[u8]) {
+fn answer_with(rt: &impl Print, line: &[u8], m: &[u8], cs: &[u8]) -> io::Result<()> {
     let mut out = [0u8; MOST_LENT];
     let buffer = trial_lines::fill(trial_lines::group(line, 5), &mut out);
     let e = buffer.count;
     if buffer.whole {
-        call(line, m, cs, &mut out[..e]);
+        call(rt, line, m, cs, &mut out[..e])
     } else {
-        skip();
+        skip(rt)
     }
 }
 
-fn call(line: &[u8], m: &[u8], cs: &[u8], out: &mut [u8]) {
+fn call(rt: &impl Print, line: &[u8], m: &[u8], cs: &[u8], out: &mut [u8]) -> io::Result<()> {
     let allowance = trial_lines::number(trial_lines::group(line, 4));
     match writer::write(modulus(line), size(line), m, cs, allowance, out) {
         Written::Length(length) => {
-            trial_lines::print(b" length");
-            trial_lines::print_number(length as u64);
+            trial_lines::print(rt, b" length")?;
+            trial_lines::print_number(rt, length as u64)?;
         }
-        Written::Refused(reason) => refuse(reason),
+        Written::Refused(reason) => refuse(rt, reason)?,
     }
-    show(out);
+    show(rt, out)
 }

@@ -1,6 +1,5 @@
 // A text in one line: \n, \r, \t and \\ stand for these bytes, a backslash with three digits for the byte of that number, and all else for itself.
 ghost use Rattle.std.specs.Prelude.{◌<◌, ◌≤◌, length};
-ghost use Rattle.io.specs.Counts.{IsPrefixLen};
 
 // A byte, and over how many bytes of the line it stands.
 #[derive(Clone, Copy)]
@@ -63,7 +62,7 @@ fn next_byte(s: &[u8], at: usize) -> Unit
 
 // One byte more, where there is room for it. Answers how many there are.
 fn keep(out: &mut [u8], count: usize, b: u8) -> usize
-    ensures { IsPrefixLen result out.new }
+    ensures { result ≤ length out.new }
 {
     if count < out.len() {
         out[count] = b;
@@ -74,7 +73,7 @@ fn keep(out: &mut [u8], count: usize, b: u8) -> usize
 
 // The bytes of the text, as far as there is room. Answers how many.
 pub fn decode(s: &[u8], out: &mut [u8]) -> usize
-    ensures { IsPrefixLen result out.new }
+    ensures { result ≤ length out.new }
 {
     let mut at = 0;
     let mut count = 0;

@@ -5,40 +5,42 @@
 mod escaped;
 
 use design::Made;
-use libc::STDIN_FILENO;
 use meaning::LONGEST_CASE;
+use std::io;
 use writer::Written;
 
 // Room for the longest text of a line.
 const LONGEST_TEXT: usize = 16384;
 
 // The first k bytes.
-fn show_front(s: &[u8], k: usize) {
+fn show_front(rt: &impl Print, s: &[u8], k: usize) -> io::Result<()> {
     if k <= s.len() {
-        trial_lines::print(&s[..k]);
+        trial_lines::print(rt, &s[..k])?;
     }
+    Ok(())
 }
 
 // The buffer has room for every case, so the writer refuses nothing.
-fn show_case(wrote: Written, out: &[u8]) {
+fn show_case(rt: &impl Print, wrote: Written, out: &[u8]) -> io::Result<()> {
     match wrote {
         Written::Length(length) => {
-            trial_lines::print(b" case");
-            trial_lines::print_number(length as u64);
-            trial_lines::print(b" |");
+            trial_lines::print(rt, b" case")?;
+            trial_lines::print_number(rt, length as u64)?;
+            trial_lines::print(rt, b" |")?;
             if length <= out.len() {
-                trial_lines::print_list(&out[..length]);
+                trial_lines::print_list(rt, &out[..length])?;
             }
+            Ok(())
         }
-        Written::Refused(_) => trial_lines::print(b" refused"),
+        Written::Refused(_) => trial_lines::print(rt, b" refused"),
     }
 }
 
-fn answer(text: &[u8]) {
+fn answer(rt: &impl Print, text: &[u8]) -> io::Result<()> {
     let mut out = [0u8; LONGEST_CASE];
     let made = design::make(text, &mut out);
     match made {
-        Made::Case(wrote) => show_case(wrote, &out),
+        Made::Case(wrote) => show_case(rt, wrote, &out),
         Made::Wrong {
             line,
             cell,
@@ -46,8 +48,8 @@ fn answer(text: &[u8]) {
         } => {
             let said = mistake::message(line, cell, expected);
             let bytes = said.bytes;
-            trial_lines::print(b" ");
-            show_front(&bytes, said.len);
+            trial_lines::print(rt, b" ")?;
+            show_front(rt, &bytes, said.len)
         }
     }
 }
@@ -61,32 +63,32 @@ fn behind_word<'a>(line: &'a [u8]) -> &'a [u8] {
     &line[end + 1..]
 }
 
-fn run(line: &[u8]) {
+fn run(rt: &impl Print, line: &[u8]) -> io::Result<()> {
     if line.len() == 0 {
-        return;
+        return Ok(());
     }
     if line[0] == b'#' {
-        trial_lines::print(line);
-        return;
+        return trial_lines::print(rt, line);
     }
-    trial_lines::print(trial_lines::word(line));
+    trial_lines::print(rt, trial_lines::word(line))?;
     let mut text = [0u8; LONGEST_TEXT];
     let count = escaped::decode(behind_word(line), &mut text);
-    answer(&text[..count]);
+    answer(rt, &text[..count])
 }
 
-fn run_all(text: &[u8]) {
+fn run_all(rt: &impl Print, text: &[u8]) -> io::Result<()> {
     let mut at = 0;
     while at < text.len() {
         let end = trial_lines::find(text, at, b'\n');
-        run(&text[at..end]);
-        trial_lines::end_line();
+        run(rt, &text[at..end])?;
+        trial_lines::end_line(rt)?;
         at = end + 1;
     }
+    Ok(())
 }
 
-fn main() {
+fn main(rt: HostRuntime) -> io::Result<()> {
     let mut text = [0u8; 65536];
-    let n = io::read_full(STDIN_FILENO, &mut text);
-    run_all(&text[..n]);
+    let n = input::read_all(&mut rt.reader(), &mut text).whole()?;
+    run_all(&rt, &text[..n])
 }

@@ -4,9 +4,8 @@
 #![tactic(auto)]
 
 ghost use Rattle.std.specs.Prelude.{◌+◌, ◌<◌, ◌≤◌, length};
-ghost use Rattle.io.specs.Counts.{IsPrefixLen};
 
-use libc::STDOUT_FILENO;
+use std::io;
 
 // The first place from `at` on that holds the mark, or the length.
 pub fn find(s: &[u8], at: usize, mark: u8) -> usize
@@ -190,7 +189,7 @@ pub struct Filled {
 
 // Writes the numbers of a group, modulo 256, from the front on, as far as there is room.
 pub fn fill(s: &[u8], out: &mut [u8]) -> Filled
-    ensures { IsPrefixLen result.count out.new }
+    ensures { result.count ≤ length out.new }
 {
     let mut at = digit(s, 0);
     let mut count = 0;
@@ -209,30 +208,28 @@ pub fn fill(s: &[u8], out: &mut [u8]) -> Filled
     Filled { count, whole: true }
 }
 
-pub fn print(text: &[u8]) {
-    io::write_all(STDOUT_FILENO, text);
+pub fn print(rt: &impl Print, text: &[u8]) -> io::Result<()> {
+    rt.write_all(text)
 }
 
 // A space and the number.
-pub fn print_number(x: u64) {
-    print(b" ");
-    io::print_decimal(STDOUT_FILENO, x);
+pub fn print_number(rt: &impl Print, x: u64) -> io::Result<()> {
+    print!(rt; " {x}")
 }
 
 // A space and the byte as a number.
-pub fn print_byte(x: u8) {
-    print_number(x as u64);
+pub fn print_byte(rt: &impl Print, x: u8) -> io::Result<()> {
+    print_number(rt, x as u64)
 }
 
 // The numbers, each after a space.
-pub fn print_list(s: &[u8]) {
-    let mut i = 0;
-    while i < s.len() {
-        print_byte(s[i]);
-        i += 1;
+pub fn print_list(rt: &impl Print, s: &[u8]) -> io::Result<()> {
+    for x in s {
+        print_byte(rt, *x)?;
     }
+    Ok(())
 }
 
-pub fn end_line() {
-    print(b"\n");
+pub fn end_line(rt: &impl Print) -> io::Result<()> {
+    print(rt, b"\n")
 }

@@ -9,10 +9,10 @@ mod vectors;
 ghost use Rattle.std.specs.Prelude.{◌<◌};
 ghost use Rattle.algebra.specs.Field.{Prime};
 
-use libc::STDIN_FILENO;
+use std::io;
 
-fn refuse() {
-    trial_lines::print(b" refused");
+fn refuse(rt: &impl Print) -> io::Result<()> {
+    trial_lines::print(rt, b" refused")
 }
 
 // The modulus that follows the line's word, or 0 where that is no byte.
@@ -35,43 +35,43 @@ fn prime(line: &[u8]) -> u8
     0
 }
 
-fn answer(line: &[u8]) {
-    trial_lines::print(trial_lines::word(line));
-    if scalars::answered(line) {
-        return;
+fn answer(rt: &impl Print, line: &[u8]) -> io::Result<()> {
+    trial_lines::print(rt, trial_lines::word(line))?;
+    if scalars::answered(rt, line)? {
+        return Ok(());
     }
-    if vectors::answered(line) {
-        return;
+    if vectors::answered(rt, line)? {
+        return Ok(());
     }
-    if polynomials::answered(line) {
-        return;
+    if polynomials::answered(rt, line)? {
+        return Ok(());
     }
-    trial_lines::print(b" unknown");
+    trial_lines::print(rt, b" unknown")
 }
 
-fn run(line: &[u8]) {
+fn run(rt: &impl Print, line: &[u8]) -> io::Result<()> {
     if line.len() == 0 {
-        return;
+        return Ok(());
     }
     if line[0] == b'#' {
-        trial_lines::print(line);
-        return;
+        return trial_lines::print(rt, line);
     }
-    answer(line);
+    answer(rt, line)
 }
 
-fn run_all(text: &[u8]) {
+fn run_all(rt: &impl Print, text: &[u8]) -> io::Result<()> {
     let mut at = 0;
     while at < text.len() {
         let end = trial_lines::find(text, at, b'\n');
-        run(&text[at..end]);
-        trial_lines::end_line();
+        run(rt, &text[at..end])?;
+        trial_lines::end_line(rt)?;
         at = end + 1;
     }
+    Ok(())
 }
 
-fn main() {
-    let mut text = io::large_buffer();
-    let n = io::read_full(STDIN_FILENO, &mut text);
-    run_all(&text[..n]);
+fn main(rt: HostRuntime) -> io::Result<()> {
+    let mut text = [0u8; 65536];
+    let n = input::read_all(&mut rt.reader(), &mut text).whole()?;
+    run_all(&rt, &text[..n])
 }

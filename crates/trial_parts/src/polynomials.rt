@@ -8,60 +8,61 @@ ghost use Rattle.poly.specs.Polynomial.{Good};
 use crate::{prime, refuse};
 use meaning::COEFFICIENTS;
 use poly::Polynomial;
+use std::io;
 
 // Whether the line's word is one of these. If so, the method or the function is called and its answer printed.
-pub fn answered(line: &[u8]) -> bool {
-    if answered_one(line) {
-        return true;
+pub fn answered(rt: &impl Print, line: &[u8]) -> io::Result<bool> {
+    if answered_one(rt, line)? {
+        return Ok(true);
     }
-    if answered_product(line) {
-        return true;
+    if answered_product(rt, line)? {
+        return Ok(true);
     }
-    answered_common(line)
+    answered_common(rt, line)
 }
 
-fn answered_one(line: &[u8]) -> bool {
+fn answered_one(rt: &impl Print, line: &[u8]) -> io::Result<bool> {
     if trial_lines::named(line, b"scale") {
-        scale(line);
-        return true;
+        scale(rt, line)?;
+        return Ok(true);
     }
     if trial_lines::named(line, b"monic") {
-        monic(line);
-        return true;
+        monic(rt, line)?;
+        return Ok(true);
     }
     if trial_lines::named(line, b"size") {
-        size(line);
-        return true;
+        size(rt, line)?;
+        return Ok(true);
     }
-    false
+    Ok(false)
 }
 
-fn answered_product(line: &[u8]) -> bool {
+fn answered_product(rt: &impl Print, line: &[u8]) -> io::Result<bool> {
     if trial_lines::named(line, b"shifted") {
-        shifted(line);
-        return true;
+        shifted(rt, line)?;
+        return Ok(true);
     }
     if trial_lines::named(line, b"times") {
-        times(line);
-        return true;
+        times(rt, line)?;
+        return Ok(true);
     }
     if trial_lines::named(line, b"divide") {
-        divide(line);
-        return true;
+        divide(rt, line)?;
+        return Ok(true);
     }
-    false
+    Ok(false)
 }
 
-fn answered_common(line: &[u8]) -> bool {
+fn answered_common(rt: &impl Print, line: &[u8]) -> io::Result<bool> {
     if trial_lines::named(line, b"gcd") {
-        gcd(line);
-        return true;
+        gcd(rt, line)?;
+        return Ok(true);
     }
     if trial_lines::named(line, b"lcm") {
-        lcm(line);
-        return true;
+        lcm(rt, line)?;
+        return Ok(true);
     }
-    false
+    Ok(false)
 }
 
 // A polynomial, which is 1 where the text has none.
@@ -110,45 +111,45 @@ fn first(line: &[u8]) -> Operand
 }
 
 // The coefficients up to the degree.
-fn show(f: Polynomial)
+fn show(rt: &impl Print, f: Polynomial) -> io::Result<()>
     requires c_len { length f.c ≡ coefficients }
     requires deg_lt_coefficients { f.deg < coefficients }
 {
     let c = f.c;
     let count = f.deg + 1;
-    trial_lines::print_list(&c[..count]);
+    trial_lines::print_list(rt, &c[..count])
 }
 
 // p | f | number
-fn scale(line: &[u8]) {
+fn scale(rt: &impl Print, line: &[u8]) -> io::Result<()> {
     let a = first(line);
     if a.ok {
         let f = a.f;
-        show(f.scale(trial_lines::byte(trial_lines::group(line, 2))));
+        show(rt, f.scale(trial_lines::byte(trial_lines::group(line, 2))))
     } else {
-        refuse();
+        refuse(rt)
     }
 }
 
 // p | f
-fn monic(line: &[u8]) {
+fn monic(rt: &impl Print, line: &[u8]) -> io::Result<()> {
     let a = first(line);
     if a.ok {
         let f = a.f;
-        show(f.make_monic());
+        show(rt, f.make_monic())
     } else {
-        refuse();
+        refuse(rt)
     }
 }
 
 // p | f
-fn size(line: &[u8]) {
+fn size(rt: &impl Print, line: &[u8]) -> io::Result<()> {
     let a = first(line);
     if a.ok {
         let f = a.f;
-        trial_lines::print_number(f.size() as u64);
+        trial_lines::print_number(rt, f.size() as u64)
     } else {
-        refuse();
+        refuse(rt)
     }
 }
 
@@ -176,102 +177,95 @@ fn both(line: &[u8]) -> Operands
 }
 
 // p | f | g | number | places: f plus the number times x^places times g
-fn shifted(line: &[u8]) {
+fn shifted(rt: &impl Print, line: &[u8]) -> io::Result<()> {
     let given = both(line);
     let f = given.f;
     let g = given.g;
     let places = trial_lines::byte(trial_lines::group(line, 4)) as usize;
     if !given.ok {
-        refuse();
-        return;
+        return refuse(rt);
     }
     if COEFFICIENTS <= g.deg + places {
-        refuse();
-        return;
+        return refuse(rt);
     }
-    show(f.add_shifted(g, trial_lines::byte(trial_lines::group(line, 3)), places));
+    show(
+        rt,
+        f.add_shifted(g, trial_lines::byte(trial_lines::group(line, 3)), places),
+    )
 }
 
 // p | f | g
-fn times(line: &[u8]) {
+fn times(rt: &impl Print, line: &[u8]) -> io::Result<()> {
     let given = both(line);
     let f = given.f;
     let g = given.g;
     if !given.ok {
-        refuse();
-        return;
+        return refuse(rt);
     }
     if COEFFICIENTS <= f.deg + g.deg {
-        refuse();
-        return;
+        return refuse(rt);
     }
-    show(f.product(g));
+    show(rt, f.product(g))
 }
 
 // p | f | g: the quotient and the remainder
-fn divide(line: &[u8]) {
+fn divide(rt: &impl Print, line: &[u8]) -> io::Result<()> {
     let given = both(line);
     let f = given.f;
     let g = given.g;
     if !given.ok {
-        refuse();
-        return;
+        return refuse(rt);
     }
     if g.size() == 0 {
-        refuse();
-        return;
+        return refuse(rt);
     }
     let parts = division::divide(f, g);
-    show(parts.quo);
-    trial_lines::print(b" |");
-    show(parts.rem);
+    show(rt, parts.quo)?;
+    trial_lines::print(rt, b" |")?;
+    show(rt, parts.rem)
 }
 
 // p | f | g
-fn gcd(line: &[u8]) {
+fn gcd(rt: &impl Print, line: &[u8]) -> io::Result<()> {
     let given = both(line);
     let f = given.f;
     let g = given.g;
     if !given.ok {
-        refuse();
-        return;
+        return refuse(rt);
     }
-    show(division::gcd(f, g));
+    show(rt, division::gcd(f, g))
 }
 
 // p | f | g
-fn lcm(line: &[u8]) {
+fn lcm(rt: &impl Print, line: &[u8]) -> io::Result<()> {
     let given = both(line);
     let f = given.f;
     let g = given.g;
     if given.ok {
-        show_lcm(f, g);
+        show_lcm(rt, f, g)
     } else {
-        refuse();
+        refuse(rt)
     }
 }
 
 // Both must be monic. The degree of the gcd tells that of the least common multiple, which is 64 at most.
-fn show_lcm(f: Polynomial, g: Polynomial)
+fn show_lcm(rt: &impl Print, f: Polynomial, g: Polynomial) -> io::Result<()>
     requires good { Good f.p f }
     requires good_2 { Good f.p g }
 {
     let c = f.c;
     let last = f.deg;
     if c[last] != 1 {
-        refuse();
-        return;
+        return refuse(rt);
     }
     let d = g.c;
     let end = g.deg;
     if d[end] != 1 {
-        refuse();
-        return;
+        return refuse(rt);
     }
     let h = division::gcd(f, g);
     if COEFFICIENTS + h.deg <= last + end {
-        refuse();
-        return;
+        return refuse(rt);
     }
-    show(division::lcm(f, g));
+    show(rt, division::lcm(f, g))
 }

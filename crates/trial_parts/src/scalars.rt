@@ -2,45 +2,46 @@
 ghost use Rattle.std.specs.Prelude.{◌<◌};
 
 use crate::{modulus, prime, refuse};
+use std::io;
 
 // Whether the line's word is one of these. If so, the function is called and its answer printed.
-pub fn answered(line: &[u8]) -> bool {
-    if answered_one(line) {
-        return true;
+pub fn answered(rt: &impl Print, line: &[u8]) -> io::Result<bool> {
+    if answered_one(rt, line)? {
+        return Ok(true);
     }
-    answered_two(line)
+    answered_two(rt, line)
 }
 
-fn answered_one(line: &[u8]) -> bool {
+fn answered_one(rt: &impl Print, line: &[u8]) -> io::Result<bool> {
     if trial_lines::named(line, b"prime") {
-        is_prime(line);
-        return true;
+        is_prime(rt, line)?;
+        return Ok(true);
     }
     if trial_lines::named(line, b"inverse") {
-        inverse(line);
-        return true;
+        inverse(rt, line)?;
+        return Ok(true);
     }
     if trial_lines::named(line, b"opposite") {
-        opposite(line);
-        return true;
+        opposite(rt, line)?;
+        return Ok(true);
     }
-    false
+    Ok(false)
 }
 
-fn answered_two(line: &[u8]) -> bool {
+fn answered_two(rt: &impl Print, line: &[u8]) -> io::Result<bool> {
     if trial_lines::named(line, b"sum") {
-        sum(line);
-        return true;
+        sum(rt, line)?;
+        return Ok(true);
     }
     if trial_lines::named(line, b"difference") {
-        difference(line);
-        return true;
+        difference(rt, line)?;
+        return Ok(true);
     }
     if trial_lines::named(line, b"product") {
-        product(line);
-        return true;
+        product(rt, line)?;
+        return Ok(true);
     }
-    false
+    Ok(false)
 }
 
 fn first(line: &[u8]) -> u8 {
@@ -51,61 +52,60 @@ fn second(line: &[u8]) -> u8 {
     trial_lines::byte(trial_lines::group(line, 2))
 }
 
-fn is_prime(line: &[u8]) {
+fn is_prime(rt: &impl Print, line: &[u8]) -> io::Result<()> {
     if scalar::is_prime(trial_lines::number(trial_lines::group(line, 0))) {
-        trial_lines::print(b" yes");
+        trial_lines::print(rt, b" yes")
     } else {
-        trial_lines::print(b" no");
+        trial_lines::print(rt, b" no")
     }
 }
 
 // The inverse is asked for modulo a prime only, and of no scalar that is 0.
-fn inverse(line: &[u8]) {
+fn inverse(rt: &impl Print, line: &[u8]) -> io::Result<()> {
     let p = prime(line);
     let a = first(line);
     if a == 0 {
-        refuse();
-        return;
+        return refuse(rt);
     }
     if a < p {
-        trial_lines::print_byte(scalar::inverse(p, a));
+        trial_lines::print_byte(rt, scalar::inverse(p, a))
     } else {
-        refuse();
+        refuse(rt)
     }
 }
 
-fn opposite(line: &[u8]) {
+fn opposite(rt: &impl Print, line: &[u8]) -> io::Result<()> {
     let p = modulus(line);
     if 0 < p {
-        trial_lines::print_byte(scalar::opposite(p, first(line)));
+        trial_lines::print_byte(rt, scalar::opposite(p, first(line)))
     } else {
-        refuse();
+        refuse(rt)
     }
 }
 
-fn sum(line: &[u8]) {
+fn sum(rt: &impl Print, line: &[u8]) -> io::Result<()> {
     let p = modulus(line);
     if 0 < p {
-        trial_lines::print_byte(scalar::sum(p, first(line), second(line)));
+        trial_lines::print_byte(rt, scalar::sum(p, first(line), second(line)))
     } else {
-        refuse();
+        refuse(rt)
     }
 }
 
-fn difference(line: &[u8]) {
+fn difference(rt: &impl Print, line: &[u8]) -> io::Result<()> {
     let p = modulus(line);
     if 0 < p {
-        trial_lines::print_byte(scalar::difference(p, first(line), second(line)));
+        trial_lines::print_byte(rt, scalar::difference(p, first(line), second(line)))
     } else {
-        refuse();
+        refuse(rt)
     }
 }
 
-fn product(line: &[u8]) {
+fn product(rt: &impl Print, line: &[u8]) -> io::Result<()> {
     let p = modulus(line);
     if 0 < p {
-        trial_lines::print_byte(scalar::product(p, first(line), second(line)));
+        trial_lines::print_byte(rt, scalar::product(p, first(line), second(line)))
     } else {
-        refuse();
+        refuse(rt)
     }
 }

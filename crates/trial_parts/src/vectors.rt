@@ -4,26 +4,27 @@ ghost use Rattle.meaning.specs.Bounds.{widest, matrix_room};
 
 use crate::{modulus, refuse};
 use meaning::{COEFFICIENTS, MATRIX_ROOM, WIDEST};
+use std::io;
 
 // Whether the line's word is one of these. If so, the function is called and its answer printed.
-pub fn answered(line: &[u8]) -> bool {
+pub fn answered(rt: &impl Print, line: &[u8]) -> io::Result<bool> {
     if trial_lines::named(line, b"bad") {
-        bad(line);
-        return true;
+        bad(rt, line)?;
+        return Ok(true);
     }
     if trial_lines::named(line, b"advance") {
-        advance(line);
-        return true;
+        advance(rt, line)?;
+        return Ok(true);
     }
     if trial_lines::named(line, b"image") {
-        image(line);
-        return true;
+        image(rt, line)?;
+        return Ok(true);
     }
     if trial_lines::named(line, b"dot") {
-        dot(line);
-        return true;
+        dot(rt, line)?;
+        return Ok(true);
     }
-    false
+    Ok(false)
 }
 
 fn square(n: usize) -> usize
@@ -34,27 +35,31 @@ fn square(n: usize) -> usize
 }
 
 // p | entries: the place of the first entry that is p or more. p may be any number.
-fn bad(line: &[u8]) {
+fn bad(rt: &impl Print, line: &[u8]) -> io::Result<()> {
     let mut s = [0u8; MATRIX_ROOM];
     let given = trial_lines::fill(trial_lines::group(line, 1), &mut s);
     let n = given.count;
     if given.whole {
-        show_bad(trial_lines::number(trial_lines::group(line, 0)), &s[..n]);
+        show_bad(
+            rt,
+            trial_lines::number(trial_lines::group(line, 0)),
+            &s[..n],
+        )
     } else {
-        refuse();
+        refuse(rt)
     }
 }
 
-fn show_bad(p: u32, s: &[u8]) {
+fn show_bad(rt: &impl Print, p: u32, s: &[u8]) -> io::Result<()> {
     let place = rows::first_bad(p, s);
     match place {
-        rows::Found::At(i) => trial_lines::print_number(i as u64),
-        rows::Found::Nothing => trial_lines::print(b" none"),
+        rows::Found::At(i) => trial_lines::print_number(rt, i as u64),
+        rows::Found::Nothing => trial_lines::print(rt, b" none"),
     }
 }
 
 // p | matrix | row
-fn advance(line: &[u8]) {
+fn advance(rt: &impl Print, line: &[u8]) -> io::Result<()> {
     let mut m = [0u8; MATRIX_ROOM];
     let matrix = trial_lines::fill(trial_lines::group(line, 1), &mut m);
     let k = matrix.count;
@@ -62,31 +67,28 @@ fn advance(line: &[u8]) {
     let row = trial_lines::fill(trial_lines::group(line, 2), &mut v);
     let n = row.count;
     if matrix.whole && row.whole {
-        show_advance(modulus(line), &m[..k], &mut v[..n]);
+        show_advance(rt, modulus(line), &m[..k], &mut v[..n])
     } else {
-        refuse();
+        refuse(rt)
     }
 }
 
-fn show_advance(p: u8, m: &[u8], v: &mut [u8]) {
+fn show_advance(rt: &impl Print, p: u8, m: &[u8], v: &mut [u8]) -> io::Result<()> {
     if p == 0 {
-        refuse();
-        return;
+        return refuse(rt);
     }
     if WIDEST < v.len() {
-        refuse();
-        return;
+        return refuse(rt);
     }
     if m.len() != square(v.len()) {
-        refuse();
-        return;
+        return refuse(rt);
     }
     matrix::advance(p, m, v);
-    trial_lines::print_list(v);
+    trial_lines::print_list(rt, v)
 }
 
 // p | matrix | polynomial | row
-fn image(line: &[u8]) {
+fn image(rt: &impl Print, line: &[u8]) -> io::Result<()> {
     let mut m = [0u8; MATRIX_ROOM];
     let matrix = trial_lines::fill(trial_lines::group(line, 1), &mut m);
     let k = matrix.count;
@@ -94,14 +96,14 @@ fn image(line: &[u8]) {
     let polynomial = trial_lines::fill(trial_lines::group(line, 2), &mut f);
     let d = polynomial.count;
     if matrix.whole && polynomial.whole {
-        image_by(line, &m[..k], &f[..d]);
+        image_by(rt, line, &m[..k], &f[..d])
     } else {
-        refuse();
+        refuse(rt)
     }
 }
 
 // The buffer of the answer holds the row before the call.
-fn image_by(line: &[u8], m: &[u8], f: &[u8]) {
+fn image_by(rt: &impl Print, line: &[u8], m: &[u8], f: &[u8]) -> io::Result<()> {
     let mut v = [0u8; WIDEST];
     let row = trial_lines::fill(trial_lines::group(line, 3), &mut v);
     let n = row.count;
@@ -109,43 +111,44 @@ fn image_by(line: &[u8], m: &[u8], f: &[u8]) {
     let answer = trial_lines::fill(trial_lines::group(line, 3), &mut out);
     let k = answer.count;
     if row.whole {
-        show_image(modulus(line), m, f, &v[..n], &mut out[..k]);
+        show_image(rt, modulus(line), m, f, &v[..n], &mut out[..k])
     } else {
-        refuse();
+        refuse(rt)
     }
 }
 
-fn show_image(p: u8, m: &[u8], f: &[u8], v: &[u8], out: &mut [u8]) {
+fn show_image(
+    rt: &impl Print,
+    p: u8,
+    m: &[u8],
+    f: &[u8],
+    v: &[u8],
+    out: &mut [u8],
+) -> io::Result<()> {
     if p == 0 {
-        refuse();
-        return;
+        return refuse(rt);
     }
     if WIDEST < v.len() {
-        refuse();
-        return;
+        return refuse(rt);
     }
     if m.len() != square(v.len()) {
-        refuse();
-        return;
+        return refuse(rt);
     }
     if f.len() < 1 {
-        refuse();
-        return;
+        return refuse(rt);
     }
     if COEFFICIENTS < f.len() {
-        refuse();
-        return;
+        return refuse(rt);
     }
     if out.len() != v.len() {
-        refuse();
-        return;
+        return refuse(rt);
     }
     matrix::image(p, m, f, v, out);
-    trial_lines::print_list(out);
+    trial_lines::print_list(rt, out)
 }
 
 // p | row | row
-fn dot(line: &[u8]) {
+fn dot(rt: &impl Print, line: &[u8]) -> io::Result<()> {
     let mut a = [0u8; WIDEST];
     let left = trial_lines::fill(trial_lines::group(line, 1), &mut a);
     let n = left.count;
@@ -153,24 +156,21 @@ fn dot(line: &[u8]) {
     let right = trial_lines::fill(trial_lines::group(line, 2), &mut b);
     let k = right.count;
     if left.whole && right.whole {
-        show_dot(modulus(line), &a[..n], &b[..k]);
+        show_dot(rt, modulus(line), &a[..n], &b[..k])
     } else {
-        refuse();
+        refuse(rt)
     }
 }
 
-fn show_dot(p: u8, a: &[u8], b: &[u8]) {
+fn show_dot(rt: &impl Print, p: u8, a: &[u8], b: &[u8]) -> io::Result<()> {
     if p == 0 {
-        refuse();
-        return;
+        return refuse(rt);
     }
     if WIDEST < a.len() {
-        refuse();
-        return;
+        return refuse(rt);
     }
     if b.len() != a.len() {
-        refuse();
-        return;
+        return refuse(rt);
     }
-    trial_lines::print_byte(matrix::dot(p, a, b));
+    trial_lines::print_byte(rt, matrix::dot(p, a, b))
 }

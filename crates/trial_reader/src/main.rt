@@ -5,59 +5,56 @@
 mod reading;
 mod stepping;
 
-use libc::STDIN_FILENO;
+use std::io;
 
 // Number 8 with the place.
-fn refuse(place: usize) {
-    trial_lines::print(b" refused 8");
-    trial_lines::print_number(place as u64);
+fn refuse(rt: &impl Print, place: usize) -> io::Result<()> {
+    trial_lines::print(rt, b" refused 8")?;
+    trial_lines::print_number(rt, place as u64)
 }
 
 // A group of the line has more numbers than there is room for.
-fn skip() {
-    trial_lines::print(b" too long");
+fn skip(rt: &impl Print) -> io::Result<()> {
+    trial_lines::print(rt, b" too long")
 }
 
-fn answer(line: &[u8]) {
-    trial_lines::print(trial_lines::word(line));
+fn answer(rt: &impl Print, line: &[u8]) -> io::Result<()> {
+    trial_lines::print(rt, trial_lines::word(line))?;
     if trial_lines::named(line, b"read") {
-        reading::answer(line, true);
-        return;
+        return reading::answer(rt, line, true);
     }
     if trial_lines::named(line, b"weigh") {
-        reading::answer(line, false);
-        return;
+        return reading::answer(rt, line, false);
     }
     if trial_lines::named(line, b"steps") {
-        stepping::answer(line);
-        return;
+        return stepping::answer(rt, line);
     }
-    trial_lines::print(b" unknown");
+    trial_lines::print(rt, b" unknown")
 }
 
-fn run(line: &[u8]) {
+fn run(rt: &impl Print, line: &[u8]) -> io::Result<()> {
     if line.len() == 0 {
-        return;
+        return Ok(());
     }
     if line[0] == b'#' {
-        trial_lines::print(line);
-        return;
+        return trial_lines::print(rt, line);
     }
-    answer(line);
+    answer(rt, line)
 }
 
-fn run_all(text: &[u8]) {
+fn run_all(rt: &impl Print, text: &[u8]) -> io::Result<()> {
     let mut at = 0;
     while at < text.len() {
         let end = trial_lines::find(text, at, b'\n');
-        run(&text[at..end]);
-        trial_lines::end_line();
+        run(rt, &text[at..end])?;
+        trial_lines::end_line(rt)?;
         at = end + 1;
     }
+    Ok(())
 }
 
-fn main() {
-    let mut text = io::large_buffer();
-    let n = io::read_full(STDIN_FILENO, &mut text);
-    run_all(&text[..n]);
+fn main(rt: HostRuntime) -> io::Result<()> {
+    let mut text = [0u8; 65536];
+    let n = input::read_all(&mut rt.reader(), &mut text).whole()?;
+    run_all(&rt, &text[..n])
 }

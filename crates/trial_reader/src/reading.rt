@@ -3,20 +3,20 @@ ghost use Rattle.std.specs.Prelude.{◌≤◌, length};
 
 use crate::{refuse, skip};
 use casefile::Reading;
-use std::num::wrapping_add_u32;
+use std::io;
 
-pub fn answer(line: &[u8], whole: bool) {
+pub fn answer(rt: &impl Print, line: &[u8], whole: bool) -> io::Result<()> {
     let mut f = [0u8; 12800];
     let file = trial_lines::fill(trial_lines::group(line, 0), &mut f);
     let k = file.count;
     if file.whole {
-        read(&f[..k], whole);
+        read(rt, &f[..k], whole)
     } else {
-        skip();
+        skip(rt)
     }
 }
 
-fn read(file: &[u8], whole: bool) {
+fn read(rt: &impl Print, file: &[u8], whole: bool) -> io::Result<()> {
     let contents = casefile::read(file);
     let answer = contents.answer;
     let matrix = contents.matrix;
@@ -28,38 +28,38 @@ fn read(file: &[u8], whole: bool) {
             allowance,
             count,
         } => {
-            show_case(p, n, allowance, count);
-            show(&matrix, n * n, whole);
-            show(&candidates, count * n, whole);
+            show_case(rt, p, n, allowance, count)?;
+            show(rt, &matrix, n * n, whole)?;
+            show(rt, &candidates, count * n, whole)
         }
         Reading::Refused(place) => {
-            refuse(place);
-            show(&matrix, 0, whole);
-            show(&candidates, 0, whole);
+            refuse(rt, place)?;
+            show(rt, &matrix, 0, whole)?;
+            show(rt, &candidates, 0, whole)
         }
     }
 }
 
-fn show_case(p: u32, n: usize, allowance: u32, count: usize) {
-    trial_lines::print(b" case");
-    trial_lines::print_number(p as u64);
-    trial_lines::print_number(n as u64);
-    trial_lines::print_number(allowance as u64);
-    trial_lines::print_number(count as u64);
+fn show_case(rt: &impl Print, p: u32, n: usize, allowance: u32, count: usize) -> io::Result<()> {
+    trial_lines::print(rt, b" case")?;
+    trial_lines::print_number(rt, p as u64)?;
+    trial_lines::print_number(rt, n as u64)?;
+    trial_lines::print_number(rt, allowance as u64)?;
+    trial_lines::print_number(rt, count as u64)
 }
 
 // The first k bytes, or how many they are; then the weight of all bytes, so that one behind them would be seen.
-fn show(s: &[u8], k: usize, whole: bool)
+fn show(rt: &impl Print, s: &[u8], k: usize, whole: bool) -> io::Result<()>
     requires { k ≤ length s.now }
 {
-    trial_lines::print(b" |");
+    trial_lines::print(rt, b" |")?;
     if whole {
-        trial_lines::print_list(&s[..k]);
+        trial_lines::print_list(rt, &s[..k])?;
     } else {
-        trial_lines::print_number(k as u64);
+        trial_lines::print_number(rt, k as u64)?;
     }
-    trial_lines::print(b" :");
-    trial_lines::print_number(weight(s) as u64);
+    trial_lines::print(rt, b" :")?;
+    trial_lines::print_number(rt, weight(s) as u64)
 }
 
 fn wide(x: u8) -> u32 {
@@ -68,13 +68,13 @@ fn wide(x: u8) -> u32 {
 
 // The sum of the bytes, each times its place counted from 1, modulo 2^32. A byte lies in as many tails as its place counts.
 fn weight(s: &[u8]) -> u32 {
-    let mut tail = 0;
-    let mut sum = 0;
+    let mut tail = 0u32;
+    let mut sum = 0u32;
     let mut i = s.len();
     while 0 < i {
         i -= 1;
-        tail = wrapping_add_u32(tail, wide(s[i]));
-        sum = wrapping_add_u32(sum, tail);
+        tail = tail.wrapping_add(wide(s[i]));
+        sum = sum.wrapping_add(tail);
     }
     sum
 }

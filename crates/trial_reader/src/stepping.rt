@@ -1,25 +1,27 @@
 // Every step of the reader, from the front on: file.
+ghost use Rattle.std.specs.Prelude.{IfOk};
 ghost use Rattle.reader.specs.Step.{StepIs};
 
 use crate::{refuse, skip};
 use reader::{Cursor, Step, Stepped};
+use std::io;
 
-pub fn answer(line: &[u8]) {
+pub fn answer(rt: &impl Print, line: &[u8]) -> io::Result<()> {
     let mut f = [0u8; 12800];
     let file = trial_lines::fill(trial_lines::group(line, 0), &mut f);
     let k = file.count;
     if file.whole {
-        walk(&f[..k]);
+        walk(rt, &f[..k])
     } else {
-        skip();
+        skip(rt)
     }
 }
 
 // The last step, which hands out no record, is made twice: it must say the same again.
-fn walk(s: &[u8]) {
+fn walk(rt: &impl Print, s: &[u8]) -> io::Result<()> {
     let mut at = reader::front();
     loop {
-        let stepped = step(s, at);
+        let stepped = step(rt, s, at)?;
         at = stepped.next;
         let said = stepped.step;
         match said {
@@ -28,42 +30,43 @@ fn walk(s: &[u8]) {
             _ => {}
         }
     }
-    step(s, at);
+    step(rt, s, at)?;
+    Ok(())
 }
 
 // Makes a step and prints it.
-fn step(s: &[u8], at: Cursor) -> Stepped
-    ensures { StepIs s.now at.at result }
+fn step(rt: &impl Print, s: &[u8], at: Cursor) -> io::Result<Stepped>
+    ensures { IfOk result (λ r. StepIs s.now at.at r) }
 {
     let stepped = reader::step_from(s, at);
     let said = stepped.step;
-    trial_lines::print(b" |");
+    trial_lines::print(rt, b" |")?;
     match said {
-        Step::Field { p, n } => show_field(p, n),
-        Step::Allow { high, low } => show_allow(high, low),
+        Step::Field { p, n } => show_field(rt, p, n)?,
+        Step::Allow { high, low } => show_allow(rt, high, low)?,
         Step::Row => {
-            trial_lines::print(b" row");
-            trial_lines::print_list(reader::entries(s, stepped));
+            trial_lines::print(rt, b" row")?;
+            trial_lines::print_list(rt, reader::entries(s, stepped))?;
         }
         Step::Candidate => {
-            trial_lines::print(b" candidate");
-            trial_lines::print_list(reader::entries(s, stepped));
+            trial_lines::print(rt, b" candidate")?;
+            trial_lines::print_list(rt, reader::entries(s, stepped))?;
         }
-        Step::End => trial_lines::print(b" end"),
-        Step::Over => trial_lines::print(b" over"),
-        Step::Refused(place) => refuse(place),
+        Step::End => trial_lines::print(rt, b" end")?,
+        Step::Over => trial_lines::print(rt, b" over")?,
+        Step::Refused(place) => refuse(rt, place)?,
     }
-    stepped
+    Ok(stepped)
 }
 
-fn show_field(p: u32, n: usize) {
-    trial_lines::print(b" field");
-    trial_lines::print_number(p as u64);
-    trial_lines::print_number(n as u64);
+fn show_field(rt: &impl Print, p: u32, n: usize) -> io::Result<()> {
+    trial_lines::print(rt, b" field")?;
+    trial_lines::print_number(rt, p as u64)?;
+    trial_lines::print_number(rt, n as u64)
 }
 
-fn show_allow(high: u8, low: u8) {
-    trial_lines::print(b" allow");
-    trial_lines::print_byte(high);
-    trial_lines::print_byte(low);
+fn show_allow(rt: &impl Print, high: u8, low: u8) -> io::Result<()> {
+    trial_lines::print(rt, b" allow")?;
+    trial_lines::print_byte(rt, high)?;
+    trial_lines::print_byte(rt, low)
 }

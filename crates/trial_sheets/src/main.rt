@@ -2,121 +2,127 @@
 // sheet, in the folder where the program runs. For each pair a line is printed: the sample's name, and whether its sheet is the stored one.
 #![tactic(auto)]
 
-ghost use Rattle.std.specs.Prelude.{◌+◌, ◌<◌, ◌^◌};
-ghost use Rattle.io.specs.Counts.{IsPrefixLen};
+ghost use Rattle.std.specs.Prelude.{◌+◌, ◌<◌, ◌≤◌, ◌^◌, length, IfOk, IfSome};
 
 use design::Made;
-use input::Input;
 use meaning::LONGEST_CASE;
 use sheet::Sheeted;
+use std::env::{Env, FillError};
+use std::rt::Files;
+use std::{fs, io, str};
 use writer::Written;
 
 // The bytes of a name that are read.
 const NAME: usize = 64;
 
-// The name that argument i is.
-fn show_name(i: usize) {
-    let mut name = [0u8; NAME];
-    let k = os::arg(i, &mut name);
-    trial_lines::print(&name[..k]);
+// The name that argument i is, at the front of the buffer; empty where it has no room there or is no text.
+fn name<'a>(rt: &impl Env, i: usize, buf: &'a mut [u8]) -> &'a str {
+    match rt.arg(i, buf) {
+        Ok(k) => str::from_utf8(&buf[..k]).unwrap_or(""),
+        Err(_) => "",
+    }
 }
 
-// The file that argument i names, at the front of the buffer; why it cannot be read is said on standard error.
-fn load(i: usize, buf: &mut [u8]) -> Input
-    ensures { IsPrefixLen result.count buf.new }
+// Whether there is an argument i.
+fn is_given(rt: &impl Env, i: usize) -> bool {
+    !matches!(rt.arg(i, &mut []), Err(FillError::NotPresent))
+}
+
+// The file of this name, at the front of the buffer: how many bytes it has.
+fn read(rt: &impl Files, name: &str, buf: &mut [u8]) -> io::Result<usize>
+    ensures { IfOk result (λ k. k ≤ length buf.new) }
 {
-    let mut name = [0u8; NAME];
-    let k = os::arg(i, &mut name);
-    let fd = os::open_read(&name[..k]);
-    if fd < 0 {
-        os::fail(&name[..k]);
-        return Input {
-            whole: false,
-            count: 0,
-        };
+    let mut file = fs::open(rt, name)?;
+    input::read_all(&mut file, buf).whole()
+}
+
+// The same; why it cannot be read is said on standard error.
+fn load(rt: &(impl Files + Eprint), name: &str, buf: &mut [u8]) -> io::Result<Option<usize>>
+    ensures { IfOk result (λ r. IfSome r (λ k. k ≤ length buf.new)) }
+{
+    match read(rt, name, buf) {
+        Ok(k) => Ok(Some(k)),
+        Err(error) => {
+            input::fail(rt, name, error)?;
+            Ok(None)
+        }
     }
-    let loaded = input::read_all(fd, buf);
-    if !loaded.whole {
-        os::fail(&name[..k]);
-    }
-    libc::close(fd);
-    loaded
 }
 
 // Whether the sheet of the file is the stored one.
-fn judge(file: &[u8], stored: &[u8]) {
+fn judge(rt: &impl Print, file: &[u8], stored: &[u8]) -> io::Result<()> {
     let mut out = [0u8; sheet::ROOM];
     let answer = sheet::sheet(file, &mut out);
     match answer {
         Sheeted::Length(k) => {
-            if check::same(&out[..k], stored) {
-                trial_lines::print(b" same\n");
+            if &out[..k] == stored {
+                trial_lines::print(rt, b" same\n")
             } else {
-                trial_lines::print(b" differs\n");
+                trial_lines::print(rt, b" differs\n")
             }
         }
-        Sheeted::Refused(_) => trial_lines::print(b" refused\n"),
+        Sheeted::Refused(_) => trial_lines::print(rt, b" refused\n"),
     }
 }
 
 // The same of the first k bytes.
-fn judge_front(file: &[u8], k: usize, stored: &[u8]) {
+fn judge_front(rt: &impl Print, file: &[u8], k: usize, stored: &[u8]) -> io::Result<()> {
     if k <= file.len() {
-        judge(&file[..k], stored);
+        judge(rt, &file[..k], stored)
+    } else {
+        Ok(())
     }
 }
 
 // The same of the case that a design's text says.
-fn judge_text(text: &[u8], stored: &[u8]) {
+fn judge_text(rt: &impl Print, text: &[u8], stored: &[u8]) -> io::Result<()> {
     let mut case = [0u8; LONGEST_CASE];
     let made = design::make(text, &mut case);
     match made {
         Made::Case(wrote) => match wrote {
-            Written::Length(k) => judge_front(&case, k, stored),
-            Written::Refused(_) => trial_lines::print(b" refused\n"),
+            Written::Length(k) => judge_front(rt, &case, k, stored),
+            Written::Refused(_) => trial_lines::print(rt, b" refused\n"),
         },
-        Made::Wrong { .. } => trial_lines::print(b" wrong\n"),
+        Made::Wrong { .. } => trial_lines::print(rt, b" wrong\n"),
     }
 }
 
-// Whether argument i names a design's text.
-fn is_text(i: usize) -> bool {
-    let mut name = [0u8; NAME];
-    let k = os::arg(i, &mut name);
-    if k < 4 {
-        return false;
-    }
-    check::same(&name[k - 4..k], b".csv")
+// Whether a name is that of a design's text.
+fn is_text(name: &str) -> bool {
+    name.ends_with(".csv")
 }
 
 // The sample that argument i names against the sheet that the next one names. The buffers are longer than any sample and any sheet, so that bytes behind
 // one are seen.
-fn try_pair(i: usize)
+fn try_pair(rt: &(impl Env + Files + Print + Eprint), i: usize) -> io::Result<()>
     requires { i + 1 < 2 ^ 64 }
 {
     let mut file = [0u8; 65536];
     let mut sheet = [0u8; 4096];
-    show_name(i);
-    let sample = load(i, &mut file);
-    let stored = load(i + 1, &mut sheet);
-    let k = sample.count;
-    let d = stored.count;
-    if sample.whole && stored.whole {
-        if is_text(i) {
-            judge_text(&file[..k], &sheet[..d]);
-        } else {
-            judge(&file[..k], &sheet[..d]);
+    let mut room = [0u8; NAME];
+    let mut sheet_room = [0u8; NAME];
+    let sample = name(rt, i, &mut room);
+    trial_lines::print(rt, sample.as_bytes())?;
+    let loaded = load(rt, sample, &mut file)?;
+    let stored = load(rt, name(rt, i + 1, &mut sheet_room), &mut sheet)?;
+    match (loaded, stored) {
+        (Some(k), Some(d)) => {
+            if is_text(sample) {
+                judge_text(rt, &file[..k], &sheet[..d])
+            } else {
+                judge(rt, &file[..k], &sheet[..d])
+            }
         }
-    } else {
-        trial_lines::print(b" unread\n");
+        _ => trial_lines::print(rt, b" unread\n"),
     }
 }
 
-fn main() {
-    let pairs = os::arg_count() / 2;
-    let mut i = 0;
-    while i < pairs {
-        try_pair(2 * i + 1);
-        i += 1;
+fn main(rt: HostRuntime) -> io::Result<()> {
+    for i in 0..usize::MAX / 2 {
+        if !is_given(&rt, 2 * i + 2) {
+            break;
+        }
+        try_pair(&rt, 2 * i + 1)?;
     }
+    Ok(())
 }

@@ -1,7 +1,6 @@
 -- `trial_lines::find` answers a place from `at` to the length. Invariant: the place is between the two. Measure: what is left of the slice. Assumes nothing.
 use Prim.Native.Nat.{◌≤◌, ◌-◌}
 use lib.ListN.{length}
-use borrow.Author.Rules.{rules}
 use Rattle.trial_lines.proofs.find.Given as goal
 
 abbrev pub invariant-loop-i : goal.invariant-loop-i

@@ -1,7 +1,6 @@
 -- `trial_lines::group` keeps within its line. Invariant: so is the place where the next group begins. Measure: the groups left to pass. Assumes nothing.
 use Prim.Native.Nat.{◌≤◌}
 use lib.ListN.{length}
-use borrow.Author.Rules.{rules}
 use Rattle.trial_lines.proofs.group.Given as goal
 
 abbrev pub invariant-loop-left : goal.invariant-loop-left

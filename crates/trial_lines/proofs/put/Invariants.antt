@@ -1,9 +1,7 @@
 -- `trial_lines::put` keeps within its buffer. Invariant: the place is from `at` to the length, which stays. Measure: the numbers left. Assumes nothing.
 use mathlib.Core.Path.{◌≡◌}
 use Prim.Native.Nat.{◌≤◌}
-use lib.ListN.{length, length-set}
-use native.Mathlib.Omega.{arith}
-use borrow.Author.Rules.{rules}
+use lib.ListN.{length}
 use Rattle.trial_lines.proofs.put.Given as goal
 
 abbrev pub invariant-loop-left : goal.invariant-loop-left

@@ -1,0 +1,6 @@
+-- `trial_parts::polynomials::divide` calls `divide` as it asks: a divisor whose size is not 0 is not zero. Assumes nothing.
+use Rattle.trial_parts.proofs.Laws.{test_nonzero}
+use Rattle.trial_parts.proofs.polynomials.divide.Goals as goal
+
+pub divide-parts-requires-clause-fact : goal.divide-parts-requires-clause-fact
+divide-parts-requires-clause-fact g c = test_nonzero c.both-given.ensures.1 c.size.ensures c.if-size-eq0.false
