@@ -2,7 +2,6 @@
 // `coordinates`) and writes them (`store`).
 #![tactic(auto)]
 
-
 use meaning::WIDEST;
 
 // Where in its slot the inverse lies, the mark of a stage's end, the kept row, what was taken for it, and the relation. The leading place comes
