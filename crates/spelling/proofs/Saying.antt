@@ -1,6 +1,6 @@
 -- What a cell says, as the code tests it.
 --   halves_over, halves_within   a number that is no allowance, and one that is
---   entry-said, entry_none       a number that is a byte, and one that is too large
+--   entry_said, entry_none       a number that is a byte, and one that is too large
 --   cell_halves, cell_entry      a cell in a line with an allowance, and in any other
 -- Assumes nothing.
 use mathlib.Core.Path.{◌≡◌, refl, ap, ◌∙◌}
@@ -26,9 +26,9 @@ pub halves_within : {y z : Tracing} (x : Tracing) (p : Spot) (v : ℕ) → v ≤
 unfolding steps
 halves_within x p v h e f = rw (le-leb v most_allowance h) (f ∙ ap (λ t. step t (said p (v % radix))) e)
 
-pub entry-said : {x : Tracing} (y : Tracing) (p : Spot) (v : ℕ) → v < no_byte → x ≡ step y (said p v) → x ≡ steps y (said p (byte_in (some v)) ∷ [])
+pub entry_said : {x : Tracing} (y : Tracing) (p : Spot) (v : ℕ) → v < no_byte → x ≡ step y (said p v) → x ≡ steps y (said p (byte_in (some v)) ∷ [])
 unfolding steps
-entry-said y p v h e = rw (lt-ltb v no_byte h) e
+entry_said y p v h e = rw (lt-ltb v no_byte h) e
 
 pub entry_none : {x : Tracing} (y : Tracing) (p : Spot) (v : ℕ) → no_byte ≤ v → x ≡ step y (said p no_byte) → x ≡ steps y (said p (byte_in (some v)) ∷ [])
 unfolding steps

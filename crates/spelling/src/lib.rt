@@ -72,6 +72,7 @@ fn say_halves(t: Trace, v: u32, line: usize, cell: usize, out: &mut [u8]) -> Tra
 }
 
 // An entry.
+#[tactic(auto, using(crate::proofs::Saying::entry_said, crate::proofs::Saying::entry_none))]
 fn say_entry(t: Trace, v: u32, line: usize, cell: usize, out: &mut [u8]) -> Trace
     ensures { (result, out.new) ≡ steps (t, out.old) (said (spot_at line cell) (byte_in (some v)) ∷ []) }
 {
@@ -82,6 +83,7 @@ fn say_entry(t: Trace, v: u32, line: usize, cell: usize, out: &mut [u8]) -> Trac
 }
 
 // What a cell behind the word says.
+#[tactic(auto, using(crate::proofs::Saying::cell_halves, crate::proofs::Saying::cell_entry))]
 fn say_cell(t: Trace, letter: u8, w: &[u8], line: usize, cell: usize, out: &mut [u8]) -> Trace
     ensures { (result, out.new) ≡ steps (t, out.old) (map (said (spot_at line cell)) (cell_bytes letter w.now)) }
 {
