@@ -1,0 +1,10 @@
+-- `trial_sheets::judge` compares what the call says it printed, which lies at the front of the buffer (`sheet_size`). Assumes nothing.
+use Rattle.std.proofs.Common.{sym, length-take-le}
+use Rattle.sheet.proofs.Size.{sheet_size}
+use Rattle.trial_sheets.proofs.judge.Goals as goal
+
+pub slice_bounds-out-end : goal.slice_bounds-out-end
+slice_bounds-out-end g c = sheet_size c.sheet-answer.ensures c.in-Length.is
+
+pub slice_bounds-eq-end : goal.slice_bounds-eq-end
+slice_bounds-eq-end g c = sym (length-take-le _ _ (sheet_size c.sheet-answer.ensures c.in-Length.is))
