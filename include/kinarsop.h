@@ -27,7 +27,7 @@
    - A result buffer may be longer than asked; the bytes behind what is written stay as they were.
    - Nothing is kept between calls and no heap is used. Several threads may call at once, as long
      as none of them writes to bytes that are lent to another's call.
-   - Stack, as measured: up to 34 KiB, in the period 70 KiB, in the sheet 108 KiB. 256 KiB are
+   - Stack, as measured: up to 34 KiB, in the period 98 KiB, in the sheet 139 KiB. 256 KiB are
      ample for a thread. */
 #ifndef KINARSOP_H
 #define KINARSOP_H
