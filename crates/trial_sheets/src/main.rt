@@ -23,6 +23,11 @@ fn name<'a>(rt: &impl Env, i: usize, buf: &'a mut [u8]) -> &'a str {
     }
 }
 
+// The name of a sample, as its line begins.
+fn show_name(rt: &impl Print, name: &str) -> io::Result<()> {
+    trial_lines::print(rt, name.as_bytes())
+}
+
 // Whether there is an argument i.
 fn is_given(rt: &impl Env, i: usize) -> bool {
     !matches!(rt.arg(i, &mut []), Err(FillError::NotPresent))
@@ -102,7 +107,7 @@ fn try_pair(rt: &(impl Env + Files + Print + Eprint), i: usize) -> io::Result<()
     let mut room = [0u8; NAME];
     let mut sheet_room = [0u8; NAME];
     let sample = name(rt, i, &mut room);
-    trial_lines::print(rt, sample.as_bytes())?;
+    show_name(rt, sample)?;
     let loaded = load(rt, sample, &mut file)?;
     let stored = load(rt, name(rt, i + 1, &mut sheet_room), &mut sheet)?;
     match (loaded, stored) {
