@@ -1,8 +1,9 @@
-// What the programs share: a reader is read to its end, and a read that fails is told from an input that is over. Which bytes the system gives no
-// contract can say.
+// What the programs share: a reader is read to its end, and a read that fails is told from an input that is over. At a reader whose bytes are known, as
+// one over memory, the contract says which are read; which bytes the system gives no contract can say.
 #![tactic(auto)]
 
-ghost use Rattle.std.specs.Prelude.{◌≡◌, ◌≤◌, length, IfOk};
+ghost use Rattle.std.specs.Prelude.{◌≡◌, ◌<◌, ◌≤◌, length, take, ◌↔◌, Some, IsOk, IfOk, IfErr, IsNone};
+ghost use Rattle.std.specs.Io.KnownBytes.{Consumes, IsAtEnd};
 
 use std::io;
 use std::io::Read;
@@ -17,7 +18,9 @@ pub struct Input {
 impl Input {
     // How many bytes there are, if no read failed.
     pub fn whole(self) -> io::Result<usize>
-        ensures { IfOk result (λ n. n ≡ self.count) }
+        ensures count { IfOk result (λ n. n ≡ self.count) }
+        ensures ok { IsOk result ↔ IsNone self.failure }
+        ensures err { IfErr result (λ e. self.failure ≡ Some e) }
     {
         match self.failure {
             Some(error) => Err(error),
@@ -27,8 +30,10 @@ impl Input {
 }
 
 // Reads until the buffer is full, the input is over or a read fails.
-pub fn read_all(from: &mut impl Read, buf: &mut [u8]) -> Input
-    ensures { result.count ≤ length buf.new }
+pub fn read_all<R: Read>(from: &mut R, buf: &mut [u8]) -> Input
+    ensures in_bounds { result.count ≤ length buf.new }
+    ensures bytes { Consumes (R.remaining from.old) (R.remaining from.new) (take result.count buf.new) }
+    ensures over { IsNone result.failure → result.count < length buf.new → IsAtEnd (R.remaining from.new) }
 {
     let mut done = 0;
     while done < buf.len() {
