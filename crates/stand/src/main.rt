@@ -1,5 +1,5 @@
 // Reads one case file on standard input and writes its sheet. What the sheet says is the library's business; this program reads, calls and writes.
-// The language has no exit status: what fails is said on standard error, and then nothing or not all is written.
+// What fails is said on standard error, and then nothing or not all is written; the exit status is 0 even so, and `./sheet` gives the one that tells.
 #![tactic(auto)]
 
 use meaning::LONGEST_CASE;
