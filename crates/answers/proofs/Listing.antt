@@ -67,7 +67,7 @@ listings-run = refl
 pair_of : (a b : ℕ) → a < 3 → b < 3 → (length (a ∷ b ∷ []) ≡ 2) × Small 3 (a ∷ b ∷ [])
 pair_of a b h k = (refl, (h, (k, tt)))
 
--- a case of the listings is well_formed if its halves and its rows are
+-- a case of the listings is well-formed if its halves and its rows are
 well : (m cs : List (List ℕ)) (a : Option (ℕ × ℕ)) → Halves a → length m ≡ 2 → RowsOf 3 2 m → length cs ≤ most_candidates → RowsOf 3 2 cs → WellFormed (squares m cs a)
 unfolding is_prime all_below
 well m cs a h q r f l = record { prime = refl; least = omega arith; most = omega arith; halves = h; square = q; rows = r; few = f; listed = l }

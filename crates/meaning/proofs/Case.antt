@@ -1,7 +1,7 @@
--- A well_formed case is within the bounds, so no call refuses it.
+-- A well-formed case is within the bounds, so no call refuses it.
 --   flatten_length, flatten_small   rows one after another: their length, and that their entries are below p
 --   rows_of_split                    rows in front of rows, each part by itself
---   case_sound, case_sound_rows     the matrix and the candidates of a well_formed case
+--   case_sound, case_sound_rows     the matrix and the candidates of a well-formed case
 -- Assumes nothing.
 use mathlib.Core.Path.{◌≡◌, sym, ap, ◌∙◌}
 use mathlib.Core.List.{List, [], ◌∷◌, ◌++◌, flatten}

@@ -1,13 +1,13 @@
--- Writing a case: what is written is a well_formed case with the values that were given, and a case with an A record is written as it was.
+-- Writing a case: what is written is a well-formed case with the values that were given, and a case with an A record is written as it was.
 --   rows_again        rows, one after another, cut into rows again
 --   bytes_cut         bytes are rows, one after another, where their number is a multiple of n
 --   halves_below      both halves of an allowance of at most 16,383 are below 128
 --   halves_again      an allowance from its halves
 --   write_sound, sound_write   what is known of an input that is not refused, and the other way round
 --   over_write, short_write   an input that is sound but for its allowance, or for its buffer
---   case_of_well, case_of_matrix, case_of_candidates, case_of_allowance   the case of sound values is well_formed, and has them
+--   case_of_well, case_of_matrix, case_of_candidates, case_of_allowance   the case of sound values is well-formed, and has them
 --   case_allowance    the allowance of a case with an A record is at most 16,383
---   case_of_again      a well_formed case with an A record is that of its values
+--   case_of_again      a well-formed case with an A record is that of its values
 --   written_case      what is written is a case
 --   written_length    its length
 --   written-only      other values give other bytes

@@ -16,10 +16,10 @@
 --   allowance_of c  the allowance of a case
 --   matrix_bytes c  the matrix, row after row
 --   candidate_bytes c   the candidates, one after another
---   IsCase s c     the bytes s are the well_formed case c
+--   IsCase s c     the bytes s are the well-formed case c
 --   longest_case    so many bytes the longest case has
---   Begins s       some continuation makes s a well_formed case
---   Place s k      k is the first offset where the bytes up to it and including it begin no well_formed case; the length if all could still be
+--   Begins s       some continuation makes s a well-formed case
+--   Place s k      k is the first offset where the bytes up to it and including it begin no well-formed case; the length if all could still be
 --                  continued
 -- Assumes nothing.
 use Rattle.std.specs.Prelude.{◌≡◌, true, ℕ, suc, ◌+◌, ◌*◌, ◌<◌, ◌≤◌, length, take}

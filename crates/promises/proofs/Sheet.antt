@@ -1,5 +1,5 @@
 -- What a sheet promises, of any bytes that are the sheet of a file, however they are read as lines.
---   case_refused_by_none   a well_formed case is refused by none of the calls that its sheet tells of, where the buffers are long enough
+--   case_refused_by_none   a well-formed case is refused by none of the calls that its sheet tells of, where the buffers are long enough
 --   sheet_lines_found       the functions of Run give the lines of a sheet
 --   case_sheet             and the sheet of a case
 --   sheet_found            a file that is a case or has a place has a sheet
