@@ -1,6 +1,6 @@
 -- One result for every input: for each call a permitted answer and buffer content exists, and any two permitted ones agree.
 -- That a refusal is the one that the table gives, and is given in no other case, is proved in `Called` of meaning.
--- What `..-exists` permits is what the functions of Run find, and can be computed: these laws unfold.
+-- What `.._exists` permits is what the functions of Run find, and can be computed: these laws unfold.
 --   inverse_exists, order_exists, image_exists, stand_exists, chain_exists, period_exists, write_exists
 --                    a permitted answer, with what the buffers hold
 --   inverse_unique, order_unique, image_unique, stand_unique, chain_unique, period_unique, write_unique

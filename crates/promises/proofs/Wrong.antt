@@ -1,6 +1,6 @@
 -- The table of wrong answers holds. Each call has a reply that its contract permits, which can be computed, and no other one is permitted: so a
 -- reply that differs from the computed one is shut out. One comparison is computed for each wrong answer of the table.
---   corrected r            the same call, with the answer and the buffers that `..-exists` gives
+--   corrected r            the same call, with the answer and the buffers that `.._exists` gives
 --   corrected_permitted    that reply is permitted
 --   corrected_only         whatever is permitted is that reply
 --   answer_numbers, standing_number, outcome_numbers, option_numbers, reply_numbers   an answer with its buffers in numbers

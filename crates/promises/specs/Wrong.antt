@@ -331,7 +331,7 @@ wrong_orders =
 
 unfoldable pub wrong_images : List Trial
 wrong_images =
-    -- [1 0 | 0 2] modulo 3: v + v-M for (1,1)
+    -- [1 0 | 0 2] modulo 3: v + v·M for (1,1)
     tried (image_on P7 (1 ∷ 1 ∷ []) (1 ∷ 1 ∷ [])) (given tt, 2 ∷ 0 ∷ 7 ∷ [])
     (("nothing written", (given tt, sevens 3))
     ∷ ("the row itself", (given tt, 1 ∷ 1 ∷ 7 ∷ []))
