@@ -4,7 +4,8 @@
 -- Assumes nothing.
 use mathlib.Core.Path.{◌≡◌, sym, ap, subst, ◌∙◌}
 use mathlib.Core.List.{List}
-use mathlib.Core.Option.{some, none-ne-some, some-injective}
+use Rattle.std.specs.Prelude.{Some}
+use Rattle.std.proofs.lemmas.Option.{none-some, same_Some}
 use Prim.Native.Nat.{ℕ}
 use Rattle.meaning.specs.Case.{allowance_of, matrix_bytes, candidate_bytes}
 use Rattle.meaning.specs.Writing.{WriteCall}
@@ -18,13 +19,13 @@ use Rattle.design.specs.declared.Made.TheVariants as making
 use Rattle.design.proofs.Once.{code_of, code_back, first_only}
 use Rattle.answers.proofs.Unique.{write_once}
 
-unmade_only : {v w : Spot × meant.Expected} (a b : Made) → unmade_of a ≡ some v → unmade_of b ≡ some w → v ≡ w → a ≡ b
+unmade_only : {v w : Spot × meant.Expected} (a b : Made) → unmade_of a ≡ Some v → unmade_of b ≡ Some w → v ≡ w → a ≡ b
 unmade_only (making.Wrong i k x) (making.Wrong j l y) e f h =
-    let s = some-injective _ _ (e ∙ ap some h ∙ sym f) in
+    let s = same_Some _ _ (e ∙ ap Some h ∙ sym f) in
     let same : x ≡ y = sym (code_back x) ∙ ap (λ t. code_of t.1) s ∙ code_back y in
     λ m. making.Wrong (s m).0.line (s m).0.cell (same m)
-unmade_only (making.Wrong i k x) (making.Case w) e f h = absurd (none-ne-some _ f)
-unmade_only (making.Case w) b e f h = absurd (none-ne-some _ e)
+unmade_only (making.Wrong i k x) (making.Case w) e f h = absurd (none-some _ f)
+unmade_only (making.Case w) b e f h = absurd (none-some _ e)
 
 pub made_once : {t old x y : List ℕ} (r s : Made) → MadeIs t old r x → MadeIs t old s y → (r ≡ s) × (x ≡ y)
 made_once {t} {old} {x} {y} r s (made_case c w I e C) (made_case d v K f D) =

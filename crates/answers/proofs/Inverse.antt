@@ -5,7 +5,7 @@
 -- Assumes nothing.
 use mathlib.Core.Path.{◌≡◌, sym, subst}
 use mathlib.Core.Bool.{true}
-use mathlib.Core.Option.{some}
+use Rattle.std.specs.Prelude.{Some}
 use Prim.Native.Nat.{ℕ, ◌<◌}
 use Rattle.meaning.specs.Inverse.{Inverts}
 use Rattle.meaning.specs.Refusal.{is_prime}
@@ -37,5 +37,5 @@ pub face_nonzero : (r : InverseAnswer) {p a : ℕ} → is_prime p ≡ true → 0
     → (r.refusal.number ≡ 0) × Inverts p a r.inverse
 face_nonzero r {p} {a} P g h C =
     let (b, e, I) = inverse_nonzero P g h C in
-    let (z, k) = read_answered r.refusal _ (some b) e in
+    let (z, k) = read_answered r.refusal _ (Some b) e in
     (z, subst (Inverts p a) (sym (inverse_in_some r.inverse b k)) I)

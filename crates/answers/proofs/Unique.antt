@@ -14,7 +14,8 @@
 use mathlib.Core.Path.{◌≡◌, refl, sym, ap, ap₂, ◌∙◌}
 use mathlib.Core.Bool.{cond}
 use mathlib.Core.List.{List}
-use mathlib.Core.Option.{Option, none, some, none-ne-some, some-injective}
+use Rattle.std.specs.Prelude.{Option, None, Some}
+use Rattle.std.proofs.lemmas.Option.{none-some, same_Some}
 use Prim.Native.Nat.{ℕ}
 use native.Mathlib.Omega.{arith}
 use lib.Dec.{eqb}
@@ -77,21 +78,21 @@ refused_only A x y e = reason_only x y (refusal_only A (as_refusal x) (as_refusa
 pub given_only : {A : Type 0} (r s : A) → given r ≡ given s → r ≡ s
 given_only r s e = cc
 
-given_some : (a b : ℕ) → given (some a) ≡ given (some b) → a ≡ b
-given_some a b e = some-injective a b (given_only (some a) (some b) e)
+given_some : (a b : ℕ) → given (Some a) ≡ given (Some b) → a ≡ b
+given_some a b e = same_Some a b (given_only (Some a) (Some b) e)
 
-given_none : (b : ℕ) → ¬ (given none ≡ given (some b))
-given_none b e = none-ne-some b (given_only none (some b) e)
+given_none : (b : ℕ) → ¬ (given None ≡ given (Some b))
+given_none b e = none-some b (given_only None (Some b) e)
 
 pub inverted_only : (r s : Inverted) → inverted_of r ≡ inverted_of s → r ≡ s
 inverted_only (inverted.Inverse a) (inverted.Inverse b) e = ap inverted.Inverse (given_some a b e)
 inverted_only (inverted.Inverse a) inverted.None e = absurd (given_none a (sym e))
-inverted_only (inverted.Inverse a) (inverted.Refused k) e = absurd (refused_given (as_refusal k) (some a) (sym e))
+inverted_only (inverted.Inverse a) (inverted.Refused k) e = absurd (refused_given (as_refusal k) (Some a) (sym e))
 inverted_only inverted.None (inverted.Inverse b) e = absurd (given_none b e)
 inverted_only inverted.None inverted.None e = refl
-inverted_only inverted.None (inverted.Refused k) e = absurd (refused_given (as_refusal k) none (sym e))
-inverted_only (inverted.Refused k) (inverted.Inverse b) e = absurd (refused_given (as_refusal k) (some b) e)
-inverted_only (inverted.Refused k) inverted.None e = absurd (refused_given (as_refusal k) none e)
+inverted_only inverted.None (inverted.Refused k) e = absurd (refused_given (as_refusal k) None (sym e))
+inverted_only (inverted.Refused k) (inverted.Inverse b) e = absurd (refused_given (as_refusal k) (Some b) e)
+inverted_only (inverted.Refused k) inverted.None e = absurd (refused_given (as_refusal k) None e)
 inverted_only (inverted.Refused k) (inverted.Refused j) e = ap inverted.Refused (refused_only (Option ℕ) k j e)
 
 ordered_only : (r s : Ordered) → ordered_of r ≡ ordered_of s → r ≡ s
@@ -138,12 +139,12 @@ chained-only (chained.Refused k) (chained.Refused j) e = ap chained.Refused (ref
 perioded_only : (r s : Perioded) → perioded_of r ≡ perioded_of s → r ≡ s
 perioded_only (perioded.Least a) (perioded.Least b) e = ap perioded.Least (given_some a b e)
 perioded_only (perioded.Least a) perioded.Never e = absurd (given_none a (sym e))
-perioded_only (perioded.Least a) (perioded.Refused k) e = absurd (refused_given (as_refusal k) (some a) (sym e))
+perioded_only (perioded.Least a) (perioded.Refused k) e = absurd (refused_given (as_refusal k) (Some a) (sym e))
 perioded_only perioded.Never (perioded.Least b) e = absurd (given_none b e)
 perioded_only perioded.Never perioded.Never e = refl
-perioded_only perioded.Never (perioded.Refused k) e = absurd (refused_given (as_refusal k) none (sym e))
-perioded_only (perioded.Refused k) (perioded.Least b) e = absurd (refused_given (as_refusal k) (some b) e)
-perioded_only (perioded.Refused k) perioded.Never e = absurd (refused_given (as_refusal k) none e)
+perioded_only perioded.Never (perioded.Refused k) e = absurd (refused_given (as_refusal k) None (sym e))
+perioded_only (perioded.Refused k) (perioded.Least b) e = absurd (refused_given (as_refusal k) (Some b) e)
+perioded_only (perioded.Refused k) perioded.Never e = absurd (refused_given (as_refusal k) None e)
 perioded_only (perioded.Refused k) (perioded.Refused j) e = ap perioded.Refused (refused_only (Option ℕ) k j e)
 
 pub written-only : (r s : Written) → written_of r ≡ written_of s → r ≡ s

@@ -5,7 +5,8 @@
 -- Assumes nothing.
 use mathlib.Core.Path.{◌≡◌, sym, ap, ap₂, ◌∙◌, subst}
 use mathlib.Core.List.{List}
-use mathlib.Core.Option.{some, some-injective}
+use Rattle.std.specs.Prelude.{Some}
+use Rattle.std.proofs.lemmas.Option.{same_Some}
 use Prim.Native.Nat.{ℕ, ◌*◌, ◌/◌, ◌≤◌}
 use native.Mathlib.Nat.{div-eq_of_eq-mul_left}
 use lib.ListN.{length, take}
@@ -28,7 +29,7 @@ use Rattle.answers.proofs.Unique.{written-only}
 -- what was written, read: the contents have the values that were given
 pub written_read : (p n : ℕ) (m cs : List ℕ) (a k : ℕ) {old new : List ℕ} {r : Contents} → WriteCall p n m cs a old (written_of (written.Length k)) new
     → ReadIs (take k new) r
-    → (values_of r.answer ≡ some (p, n, a, length cs / n)) × (r.matrix ≡ padded matrix_room m) × (r.candidates ≡ padded candidate_room cs)
+    → (values_of r.answer ≡ Some (p, n, a, length cs / n)) × (r.matrix ≡ padded matrix_room m) × (r.candidates ≡ padded candidate_room cs)
 written_read p n m cs a k {r = r} C R =
     let (c, I, H) = written_values p n m cs a C in
     let A = read_case I R in
@@ -36,20 +37,20 @@ written_read p n m cs a k {r = r} C R =
     let rows : length c.candidates ≡ length cs / n =
     sym (div-eq_of_eq-mul_left w.least (flatten_length c.p c.n c.candidates w.listed))
     ∙ (λ j. length (H.candidates j) / H.size j) in (
-      A.values ∙ (λ j. some (H.prime j, H.size j, H.allowance j, rows j)),
+      A.values ∙ (λ j. Some (H.prime j, H.size j, H.allowance j, rows j)),
       A.matrix ∙ ap (padded matrix_room) H.matrix,
       A.candidates ∙ ap (padded candidate_room) H.candidates,
     )
 
 -- a case with an A record, read, and what was read written: the same bytes. The reader hands out n·n bytes of the matrix and n bytes for each candidate
-pub read_written : {s old new : List ℕ} {c : Case} {h : ℕ × ℕ} {r : Contents} (w : Written) (p n a k : ℕ) → IsCase s c → c.allowance ≡ some h
+pub read_written : {s old new : List ℕ} {c : Case} {h : ℕ × ℕ} {r : Contents} (w : Written) (p n a k : ℕ) → IsCase s c → c.allowance ≡ Some h
     → ReadIs s r → r.answer ≡ reading.Case p n a k → length s ≤ length old
     → WriteCall p n (take (n * n) r.matrix) (take (k * n) r.candidates) a old (written_of w) new
     → (w ≡ written.Length (length s)) × (new ≡ write s old)
 read_written {s} {old} {new} {c} {r = r} w p n a k I e R q l C =
     let A = read_case I R in
     let W = I.well_formed in
-    let v = some-injective _ _ (sym (ap values_of q) ∙ A.values) in
+    let v = same_Some _ _ (sym (ap values_of q) ∙ A.values) in
     let size : n ≡ c.n = ap (λ t. t.1) v in
     let matrix : take (n * n) r.matrix ≡ matrix_bytes c =
     ap₂ (λ j t. take (j * j) t) size A.matrix ∙ sym (padded_take (c.n * c.n) matrix_room (matrix_bytes c) (case_sound c W).matrix) in

@@ -2,7 +2,7 @@
 --   counted_as s c w   what a stand returns: its standing, its counts and its witness
 --   inverted_of, ordered_of, imaged_of, stood_of, chained_of, perioded_of   a refusal, or the result
 -- Assumes nothing.
-use Rattle.std.proofs.Math.Option.{Option, none, some}
+use Rattle.std.specs.Prelude.{Option, None, Some}
 use Rattle.std.specs.Prelude.{ℕ}
 use Rattle.meaning.specs.Stand.{Standing, proved, short, Outcome}
 use Rattle.meaning.specs.Calls.{Answer, refused, given}
@@ -22,8 +22,8 @@ use Rattle.calls.specs.declared.Perioded.{Perioded}
 use Rattle.calls.specs.declared.Perioded.TheVariants as perioded
 
 abbrev pub inverted_of : Inverted → Answer (Option ℕ)
-inverted_of (inverted.Inverse b) = given (some b)
-inverted_of inverted.None = given none
+inverted_of (inverted.Inverse b) = given (Some b)
+inverted_of inverted.None = given None
 inverted_of (inverted.Refused r) = refused (as_refusal r)
 
 abbrev pub ordered_of : Ordered → Answer ℕ
@@ -47,6 +47,6 @@ chained_of (chained.Stages k) = given k
 chained_of (chained.Refused r) = refused (as_refusal r)
 
 abbrev pub perioded_of : Perioded → Answer (Option ℕ)
-perioded_of (perioded.Least t) = given (some t)
-perioded_of perioded.Never = given none
+perioded_of (perioded.Least t) = given (Some t)
+perioded_of perioded.Never = given None
 perioded_of (perioded.Refused r) = refused (as_refusal r)

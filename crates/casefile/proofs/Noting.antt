@@ -7,7 +7,7 @@
 -- Assumes nothing.
 use mathlib.Core.Path.{◌≡◌, refl, sym, ap, ap₂, subst, ◌∙◌}
 use mathlib.Core.List.{List, [], ◌∷◌, ◌++◌, flatten, append_assoc, append-nil}
-use mathlib.Core.Option.{some}
+use Rattle.std.specs.Prelude.{Some}
 use Prim.Native.Nat.{ℕ, ◌+◌, ◌*◌, ◌<◌, ◌≤◌}
 use native.Mathlib.Nat.{le_antisymm}
 use native.Mathlib.Omega.{arith}
@@ -55,18 +55,18 @@ rows_more {room} ls {l} B m at new =
     new ∙ ap₂ (λ x y. paste x y l (length l)) m (at ∙ sym B.place) ∙ padded_paste room (flatten ls) l B.fits ∙ ap (padded room) (sym (flatten_more ls l))
 
 -- the record that a step hands out
-hands_as : {s : List ℕ} {r : Stepped} {v : Numbers} {m cs : List ℕ} (w : Noting s r v m cs) {x : Step} {y : Record} → r.step ≡ x → record_with (entries_in s r) x ≡ some y
+hands_as : {s : List ℕ} {r : Stepped} {v : Numbers} {m cs : List ℕ} (w : Noting s r v m cs) {x : Step} {y : Record} → r.step ≡ x → record_with (entries_in s r) x ≡ Some y
     → w.next ≡ y
-hands_as {s} {r} w e h = let z : some w.next ≡ some _ = sym w.hands ∙ ap (record_with (entries_in s r)) e ∙ h in cc
+hands_as {s} {r} w e h = let z : Some w.next ≡ Some _ = sym w.hands ∙ ap (record_with (entries_in s r)) e ∙ h in cc
 
 -- one more row behind those so far
 row_behind : {s : List ℕ} {r : Stepped} {v : Numbers} {m cs l : List ℕ} (w : Noting s r v m cs) → r.step ≡ step.Row → l ≡ entries_in s r
     → Behind (length w.values.matrix) widest matrix_room (matrix_bytes w.values) l
-row_behind {l = l} w e f = subst (RoomFor w.values) (hands_as w e (ap (λ t. some (row t)) (sym f))) w.room
+row_behind {l = l} w e f = subst (RoomFor w.values) (hands_as w e (ap (λ t. Some (row t)) (sym f))) w.room
 
 candidate_behind : {s : List ℕ} {r : Stepped} {v : Numbers} {m cs l : List ℕ} (w : Noting s r v m cs) → r.step ≡ step.Candidate → l ≡ entries_in s r
     → Behind (length w.values.candidates) most_candidates candidate_room (candidate_bytes w.values) l
-candidate_behind {l = l} w e f = subst (RoomFor w.values) (hands_as w e (ap (λ t. some (candidate t)) (sym f))) w.room
+candidate_behind {l = l} w e f = subst (RoomFor w.values) (hands_as w e (ap (λ t. Some (candidate t)) (sym f))) w.room
 
 -- there is room for it in its buffer: k rows come before it
 pub record Fitting (k most room : ℕ) (l : List ℕ) : Type 0 where
@@ -126,7 +126,7 @@ pub noted_row : {s : List ℕ} {r : Stepped} {v : Numbers} {m cs new l : List �
 noted_row {cs = cs} {new = new} {l = l} e f g w =
     let H = w.holds in
     let ls : List (List ℕ) = w.values.matrix in
-    subst (λ x. Stored (noted w.values x) _ new cs) (sym (hands_as w e (ap (λ t. some (row t)) (sym f))))
+    subst (λ x. Stored (noted w.values x) _ new cs) (sym (hands_as w e (ap (λ t. Some (row t)) (sym f))))
     (record {
       modulus = H.modulus;
       order = H.order;
@@ -143,7 +143,7 @@ pub noted_candidate : {s : List ℕ} {r : Stepped} {v : Numbers} {m cs new l : L
 noted_candidate {m = m} {new = new} {l = l} e f g w =
     let H = w.holds in
     let ls : List (List ℕ) = w.values.candidates in
-    subst (λ x. Stored (noted w.values x) _ m new) (sym (hands_as w e (ap (λ t. some (candidate t)) (sym f))))
+    subst (λ x. Stored (noted w.values x) _ m new) (sym (hands_as w e (ap (λ t. Some (candidate t)) (sym f))))
     (record {
       modulus = H.modulus;
       order = H.order;
@@ -156,7 +156,7 @@ noted_candidate {m = m} {new = new} {l = l} e f g w =
 
 -- any other step that hands out a record hands out E
 rest_end : (x : Step) (l : List ℕ) (y : Record) → ((p n : ℕ) → x ≡ step.Field p n → ⊥) → ((high low : ℕ) → x ≡ step.Allow high low → ⊥)
-    → (x ≡ step.Row → ⊥) → (x ≡ step.Candidate → ⊥) → record_with l x ≡ some y → end ≡ y
+    → (x ≡ step.Row → ⊥) → (x ≡ step.Candidate → ⊥) → record_with l x ≡ Some y → end ≡ y
 rest_end (step.Field p n) l y f a r c e = absurd (f p n refl)
 rest_end (step.Allow high low) l y f a r c e = absurd (a high low refl)
 rest_end step.Row l y f a r c e = absurd (r refl)

@@ -7,7 +7,8 @@
 -- Assumes nothing.
 use mathlib.Core.Path.{◌≡◌, sym, ap, subst, ◌∙◌}
 use mathlib.Core.List.{List}
-use mathlib.Core.Option.{some, none-ne-some, some-injective}
+use Rattle.std.specs.Prelude.{Some}
+use Rattle.std.proofs.lemmas.Option.{none-some, same_Some}
 use Prim.Native.Nat.{ℕ, ◌*◌, ◌≤◌}
 use native.Mathlib.Nat.{mul-le-mul}
 use lib.ListN.{length}
@@ -26,17 +27,17 @@ use Rattle.reader.proofs.Steps.{steps_case, steps_refused}
 
 read_within : {s : List ℕ} {r : Contents} {p n a k : ℕ} → ReadIs s r → r.answer ≡ answer.Case p n a k → (n ≤ widest) × (k ≤ most_candidates)
 read_within (reads c W v x y) e =
-    let q = some-injective _ _ (sym v ∙ ap values_of e) in
+    let q = same_Some _ _ (sym v ∙ ap values_of e) in
     (subst (λ i. i ≤ widest) (ap (λ t. t.1) q) W.well_formed.most, subst (λ i. i ≤ most_candidates) (ap (λ t. t.3) q) W.well_formed.few)
-read_within (refuses j W P v x y) e = absurd (none-ne-some _ (sym (ap read_refusal e) ∙ v))
+read_within (refuses j W P v x y) e = absurd (none-some _ (sym (ap read_refusal e) ∙ v))
 
 pub read_sizes : {s : List ℕ} {r : Contents} {p n a k : ℕ} → ReadIs s r → r.answer ≡ answer.Case p n a k → (n * n ≤ matrix_room) × (k * n ≤ candidate_room)
 read_sizes R e = let w = read_within R e in (mul-le-mul w.0 w.0, mul-le-mul w.1 w.0)
 
 pub read_refused : {s : List ℕ} {r : Contents} {k : ℕ} → ReadIs s r → r.answer ≡ answer.Refused k → ((c : Case) → ¬ IsCase s c) × Place s k
-read_refused (reads c i v f g) q = absurd (none-ne-some _ (sym (ap values_of q) ∙ v))
+read_refused (reads c i v f g) q = absurd (none-some _ (sym (ap values_of q) ∙ v))
 read_refused {s} {r} {k} (refuses j none_is at v f g) q =
-    let e = some-injective (8, k) (8, j) (sym (ap read_refusal q) ∙ v) in
+    let e = same_Some (8, k) (8, j) (sym (ap read_refusal q) ∙ v) in
     (none_is, subst (Place s) (sym (ap (λ x. x.1) e)) at)
 
 pub read_steps : {s : List ℕ} {r : Contents} → ReadIs s r → HandedOut s r
@@ -44,13 +45,13 @@ read_steps (reads c i v x y) = whole c (steps_case i) v x y
 read_steps (refuses k n P v x y) = stopped k (steps_refused n P) v
 
 -- an answer is known by its values, or by its place
-reading_case : (a : Reading) (x : ℕ × ℕ × ℕ × ℕ) → values_of a ≡ some x → a ≡ answer.Case x.0 x.1 x.2 x.3
-reading_case (answer.Case p n allowance count) x e = ap (λ t. answer.Case t.0 t.1 t.2 t.3) (some-injective _ _ e)
-reading_case (answer.Refused k) x e = absurd (none-ne-some _ e)
+reading_case : (a : Reading) (x : ℕ × ℕ × ℕ × ℕ) → values_of a ≡ Some x → a ≡ answer.Case x.0 x.1 x.2 x.3
+reading_case (answer.Case p n allowance count) x e = ap (λ t. answer.Case t.0 t.1 t.2 t.3) (same_Some _ _ e)
+reading_case (answer.Refused k) x e = absurd (none-some _ e)
 
-reading_refused : (a : Reading) (k : ℕ) → read_refusal a ≡ some (8, k) → a ≡ answer.Refused k
-reading_refused (answer.Case p n allowance count) k e = absurd (none-ne-some _ e)
-reading_refused (answer.Refused j) k e = ap (λ t. answer.Refused t.1) (some-injective _ _ e)
+reading_refused : (a : Reading) (k : ℕ) → read_refusal a ≡ Some (8, k) → a ≡ answer.Refused k
+reading_refused (answer.Case p n allowance count) k e = absurd (none-some _ e)
+reading_refused (answer.Refused j) k e = ap (λ t. answer.Refused t.1) (same_Some _ _ e)
 
 contents_same : {a b : Contents} → a.answer ≡ b.answer → a.matrix ≡ b.matrix → a.candidates ≡ b.candidates → a ≡ b
 contents_same e f g = λ i. record { answer = e i; matrix = f i; candidates = g i }

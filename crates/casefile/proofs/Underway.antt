@@ -8,7 +8,8 @@
 -- Assumes nothing.
 use mathlib.Core.Path.{◌≡◌, refl, sym, ap, subst, ◌∙◌}
 use mathlib.Core.List.{List, [], ◌∷◌, ◌++◌, flatten}
-use mathlib.Core.Option.{Option, some, none-ne-some}
+use Rattle.std.specs.Prelude.{Option, Some}
+use Rattle.std.proofs.lemmas.Option.{none-some}
 use Prim.Native.Nat.{ℕ, ◌+◌, ◌-◌, ◌<◌}
 use native.Mathlib.Omega.{arith}
 use lib.ListN.{length, replicate, length-replicate}
@@ -52,7 +53,7 @@ underway_start s e = record {
 -- what a step says that hands out a record
 record GivesOut (s : List ℕ) (at : ℕ) (r : Stepped) : Type 0 where
   next : Record
-  hands_out : record_of s r ≡ some next
+  hands_out : record_of s r ≡ Some next
   is_next : NextRecord s at next
   behind : r.next.at ≡ at + length (record_bytes next)
 
@@ -96,19 +97,19 @@ module _ {s m cs : List ℕ} {v : Numbers} {at : ℕ} {r : Stepped} (P : Underwa
 -- how reading ends
 pub underway_over : {s m cs : List ℕ} {v : Numbers} {at : ℕ} {r : Stepped} → Underway s m cs v at → StepIs s at r → r.step ≡ step.Over
     → ReadIs s (record { answer = answer.Case v.p v.n v.allowance v.count; matrix = m; candidates = cs })
-underway_over {s} {r = r} P (hands x N f g k) e = absurd (none-ne-some _ (ap (record_with (entries_in s r)) (sym e) ∙ f))
+underway_over {s} {r = r} P (hands x N f g k) e = absurd (none-some _ (ap (record_with (entries_in s r)) (sym e) ∙ f))
 underway_over {s} {m} {cs} {v} P (over E f g k) e =
     let H : Stored E.case v m cs = subst (λ c. Stored c v m cs) (handed_all P.handed E) P.holds in
     reads E.case E.is (four H.modulus H.order H.allowance H.count) H.matrix H.candidates
   where
     four : {p n a k q o b l : ℕ} → p ≡ q → n ≡ o → a ≡ b → k ≡ l
-        → ◌≡◌ {A = Option (ℕ × ℕ × ℕ × ℕ)} (some (p, n, a, k)) (some (q, o, b, l))
-    four e f g h = λ i. some (e i, f i, g i, h i)
-underway_over P (refuses k N E Q f g h) e = absurd (none-ne-some _ (ap refusal_of (sym e) ∙ f))
+        → ◌≡◌ {A = Option (ℕ × ℕ × ℕ × ℕ)} (Some (p, n, a, k)) (Some (q, o, b, l))
+    four e f g h = λ i. Some (e i, f i, g i, h i)
+underway_over P (refuses k N E Q f g h) e = absurd (none-some _ (ap refusal_of (sym e) ∙ f))
 
 pub underway_refused : {s m cs : List ℕ} {v : Numbers} {at k : ℕ} {r : Stepped} → Underway s m cs v at → StepIs s at r → r.step ≡ step.Refused k
     → ReadIs s (record { answer = answer.Refused k; matrix = replicate matrix_room 0; candidates = replicate candidate_room 0 })
-underway_refused {s} {r = r} P (hands x N f g k) e = absurd (none-ne-some _ (ap (record_with (entries_in s r)) (sym e) ∙ f))
-underway_refused P (over E f g k) e = absurd (none-ne-some _ (ap refusal_of (sym f ∙ e)))
+underway_refused {s} {r = r} P (hands x N f g k) e = absurd (none-some _ (ap (record_with (entries_in s r)) (sym e) ∙ f))
+underway_refused P (over E f g k) e = absurd (none-some _ (ap refusal_of (sym f ∙ e)))
 underway_refused {k = j} P (refuses k N E Q f g h) e =
     no_case k (λ c i. handed_stuck P.handed N E i) Q (sym (ap refusal_of e) ∙ f) refl refl

@@ -19,7 +19,7 @@
 use mathlib.Core.Path.{◌≡◌, refl, sym, ap, ap₂, subst, ◌∙◌}
 use mathlib.Core.Bool.{Bool, true, false, ◌&&◌, cond, false≢true, and-true, and-eq-true_iff}
 use mathlib.Core.List.{List, [], ◌∷◌}
-use mathlib.Core.Option.{Option, none, some}
+use Rattle.std.specs.Prelude.{Option, None, Some}
 use Prim.Native.Nat.{ℕ, zero, suc, ◌+◌, ◌*◌, ◌-◌, ◌<◌, ◌≤◌}
 use native.Mathlib.Nat.{le_refl}
 use native.Mathlib.Numerals.{add-one}
@@ -229,41 +229,41 @@ unfolding letter_of
 letter_told w e f g h i = cond (e i) 70 (cond (f i) 65 (cond (g i) 82 (cond (h i) 67 no_byte)))
 
 -- numbers
-pub capped_small : (v : ℕ) → v ≤ too_large → capped (some v) ≡ v
+pub capped_small : (v : ℕ) → v ≤ too_large → capped (Some v) ≡ v
 unfolding capped
 capped_small v h = ap (λ b. cond b v too_large) (le-leb v too_large h)
 
-pub capped_large : (v : ℕ) → too_large < v → capped (some v) ≡ too_large
+pub capped_large : (v : ℕ) → too_large < v → capped (Some v) ≡ too_large
 unfolding capped
 capped_large v h = ap (λ b. cond b v too_large) (lt-leb v too_large h)
 
 -- a number that is capped before a digit is the same once it is capped behind it
-capped-digit : (v d : ℕ) → capped (some (10 * capped (some v) + d)) ≡ capped (some (10 * v + d))
+capped-digit : (v d : ℕ) → capped (Some (10 * capped (Some v) + d)) ≡ capped (Some (10 * v + d))
 capped-digit v d =
     elim (dec_le v too_large) [
-      | yes h ↦ ap (λ x. capped (some (10 * x + d))) (capped_small v h)
-      | no h ↦ ap (λ x. capped (some (10 * x + d))) (capped_large v (omega arith)) ∙ capped_large (10 * too_large + d) (omega arith)
+      | yes h ↦ ap (λ x. capped (Some (10 * x + d))) (capped_small v h)
+      | no h ↦ ap (λ x. capped (Some (10 * x + d))) (capped_large v (omega arith)) ∙ capped_large (10 * too_large + d) (omega arith)
           ∙ sym (capped_large (10 * v + d) (omega arith))
     ]
 
-pub capped_most : (v : ℕ) → capped (some v) ≤ too_large
+pub capped_most : (v : ℕ) → capped (Some v) ≤ too_large
 capped_most v =
     elim (dec_le v too_large) [
       | yes h ↦ omega (arith, capped_small v h)
       | no h ↦ omega (arith, capped_large v (omega arith))
     ]
 
-digit_or_none : (b : Bool) (x y : Option ℕ) → capped x ≡ capped y → capped (cond b x none) ≡ capped (cond b y none)
+digit_or_none : (b : Bool) (x y : Option ℕ) → capped x ≡ capped y → capped (cond b x None) ≡ capped (cond b y None)
 digit_or_none true x y e = e
 digit_or_none false x y e = refl
 
-capped_from : (v : ℕ) (w : List ℕ) → capped (number_from (capped (some v)) w) ≡ capped (number_from v w)
+capped_from : (v : ℕ) (w : List ℕ) → capped (number_from (capped (Some v)) w) ≡ capped (number_from v w)
 unfolding number_from
-capped_from v [] = capped_small (capped (some v)) (capped_most v)
+capped_from v [] = capped_small (capped (Some v)) (capped_most v)
 capped_from v (b ∷ w) =
     let d : ℕ = b - 48 in
     digit_or_none (is_digit b) _ _
-    (sym (capped_from (10 * capped (some v) + d) w) ∙ ap (λ x. capped (number_from x w)) (capped-digit v d) ∙ capped_from (10 * v + d) w)
+    (sym (capped_from (10 * capped (Some v) + d) w) ∙ ap (λ x. capped (number_from x w)) (capped-digit v d) ∙ capped_from (10 * v + d) w)
 
 pub digit_range : (b : ℕ) → is_digit b ≡ true → (48 ≤ b) × (b ≤ 57)
 digit_range b e =
@@ -271,10 +271,10 @@ digit_range b e =
     (leb-true 48 b both.0, leb-true b 57 both.1)
 
 number_at : {b : Bool} (s : List ℕ) (i v : ℕ) → i < length s → is_digit (get_or s i 0) ≡ b
-    → number_from v (drop i s) ≡ cond b (number_from (10 * v + (get_or s i 0 - 48)) (drop (i + 1) s)) none
+    → number_from v (drop i s) ≡ cond b (number_from (10 * v + (get_or s i 0 - 48)) (drop (i + 1) s)) None
 unfolding number_from
 number_at s i v h e =
-    ap (number_from v) (left_at s i h) ∙ ap (λ b. cond b (number_from (10 * v + (get_or s i 0 - 48)) (drop (i + 1) s)) none) e
+    ap (number_from v) (left_at s i h) ∙ ap (λ b. cond b (number_from (10 * v + (get_or s i 0 - 48)) (drop (i + 1) s)) None) e
 
 pub number_none : (s : List ℕ) → length s ≡ 0 → capped (number_in s) ≡ too_large
 unfolding number_in capped
@@ -286,7 +286,7 @@ unfolding number_in
 number_start [] h = absurd (h refl)
 number_start (b ∷ s) h = refl
 
-pub number_turn : {x : ℕ} (s : List ℕ) (i v : ℕ) → i < length s → is_digit (get_or s i 0) ≡ true → x ≡ capped (some (10 * v + (get_or s i 0 - 48)))
+pub number_turn : {x : ℕ} (s : List ℕ) (i v : ℕ) → i < length s → is_digit (get_or s i 0) ≡ true → x ≡ capped (Some (10 * v + (get_or s i 0 - 48)))
     → capped (number_from x (drop (i + 1) s)) ≡ capped (number_from v (drop i s))
 number_turn s i v h e q =
     ap (λ y. capped (number_from y (drop (i + 1) s))) q ∙ capped_from (10 * v + (get_or s i 0 - 48)) (drop (i + 1) s) ∙ ap capped (sym (number_at s i v h e))

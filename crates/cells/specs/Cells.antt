@@ -8,7 +8,7 @@
 --   capped o           the number o, where it is smaller; `too_large`, where it is not or where there is none
 -- Assumes nothing.
 use Rattle.std.specs.Prelude.{◌≡◌, cond, List, [], ◌∷◌, ℕ, suc, ◌+◌, ◌-◌, ◌≤◌, length, take, drop, leb, ltb}
-use Rattle.std.proofs.Math.Option.{Option, none, some}
+use Rattle.std.specs.Prelude.{Option, None, Some}
 use Rattle.meaning.specs.Bounds.{most_allowance}
 use Rattle.meaning.specs.Design.{without_mark, cut_at, without_return, used}
 
@@ -37,5 +37,5 @@ abbrev pub too_large : ℕ
 too_large = most_allowance + 1
 
 unfoldable pub capped : Option ℕ → ℕ
-capped none = too_large
-capped (some v) = cond (leb v too_large) v too_large
+capped None = too_large
+capped (Some v) = cond (leb v too_large) v too_large

@@ -2,7 +2,7 @@
 #![tactic(auto)]
 
 ghost use Rattle.std.specs.Prelude.{◌≡◌, ◌≤◌, length};
-ghost use Rattle.std.proofs.Math.Option.{some};
+ghost use Rattle.std.specs.Prelude.{Some};
 ghost use Rattle.meaning.specs.Design.{is_separator, separator_in, is_digit, number_in, same, letter_of};
 ghost use Rattle.cells.specs.Cells.{BehindMark, Piece, BeforeReturn, UsedPart, capped};
 
@@ -142,7 +142,7 @@ fn wide(b: u8) -> u32
 }
 
 fn cap(v: u32) -> u32
-    ensures { result ≡ capped (some v) }
+    ensures { result ≡ capped (Some v) }
 {
     if v <= TOO_LARGE {
         return v;

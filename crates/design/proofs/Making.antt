@@ -6,7 +6,7 @@
 -- Assumes nothing.
 use mathlib.Core.Path.{◌≡◌, refl, sym, ap, ap₂, subst, ◌∙◌}
 use mathlib.Core.List.{List}
-use mathlib.Core.Option.{none-ne-some, some-injective}
+use Rattle.std.proofs.lemmas.Option.{none-some, same_Some}
 use Prim.Native.Nat.{ℕ, ◌*◌, ◌-◌, ◌≤◌}
 use native.Mathlib.Nat.{mul-le-mul}
 use native.Mathlib.Omega.{arith}
@@ -44,7 +44,7 @@ padded_covers k l = omega (arith, length-append l (replicate (k - length l) 0))
 pub drawn_values : {t : List ℕ} {r : Design} {p n a k : ℕ} → DesignIs t r → r.answer ≡ drawn.Case p n a k → Values t p n a k r.matrix r.candidates
 drawn_values {t} {r} {p} {n} {a} {k} (drawn_case c I v m cs) e =
     let W = I.well_formed in
-    let s = some-injective (p, n, a, k) (c.p, c.n, allowance_of c, length c.candidates) (sym (ap drawn_of e) ∙ v) in
+    let s = same_Some (p, n, a, k) (c.p, c.n, allowance_of c, length c.candidates) (sym (ap drawn_of e) ∙ v) in
     let size : n ≡ c.n = ap (λ x. x.1) s in
     let count : k ≡ length c.candidates = ap (λ x. x.3) s in
     let wide : n ≤ widest = omega (arith, size, W.most) in
@@ -62,7 +62,7 @@ drawn_values {t} {r} {p} {n} {a} {k} (drawn_case c I v m cs) e =
       listed = (λ i. take (count i * size i) (cs i))
           ∙ sym (padded_take (length c.candidates * c.n) candidate_room (candidate_bytes c) (flatten_length c.p c.n c.candidates W.listed));
     }
-drawn_values (wrong_spot q f none_is B w n ds) e = absurd (none-ne-some _ (sym (ap wrong_of e) ∙ w))
+drawn_values (wrong_spot q f none_is B w n ds) e = absurd (none-some _ (sym (ap wrong_of e) ∙ w))
 
 pub values_write : {t m cs old new : List ℕ} {p n a k : ℕ} {w : Written} (U : Values t p n a k m cs)
     → WriteCall p n (take (n * n) m) (take (k * n) cs) a old (written_of w) new → MadeIs t old (making.Case w) new
@@ -74,5 +74,5 @@ values_write {old = old} {new = new} {w = w} U C =
 
 pub drawn_wrong : {t old new : List ℕ} {r : Design} {i j : ℕ} {e : Expected} → DesignIs t r → r.answer ≡ drawn.Wrong i j e → new ≡ old
     → MadeIs t old (making.Wrong i j e) new
-drawn_wrong (drawn_case c I v m cs) f h = absurd (none-ne-some _ (sym (ap drawn_of f) ∙ v))
+drawn_wrong (drawn_case c I v m cs) f h = absurd (none-some _ (sym (ap drawn_of f) ∙ v))
 drawn_wrong (wrong_spot p e none_is A v m cs) f h = made_none p e none_is A (sym (ap wrong_of f) ∙ v) h

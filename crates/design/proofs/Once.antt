@@ -7,7 +7,8 @@
 use mathlib.Core.Path.{◌≡◌, refl, sym, ap, subst, ◌∙◌, fun_ext}
 use mathlib.Core.Bool.{Bool, true, false, cond, false≢true}
 use mathlib.Core.List.{List, [], ◌∷◌, ◌++◌}
-use mathlib.Core.Option.{some, none-ne-some, some-injective}
+use Rattle.std.specs.Prelude.{Some}
+use Rattle.std.proofs.lemmas.Option.{none-some, same_Some}
 use Prim.Native.Nat.{ℕ, zero, suc, ◌+◌, ◌-◌, ◌≤◌}
 use native.Mathlib.Nat.{add-zero, add-suc}
 use native.Mathlib.Omega.{arith}
@@ -128,20 +129,20 @@ code_back expected.Row = refl
 code_back expected.CandidateOrEnd = refl
 code_back expected.TextEnd = refl
 
-drawn_only : {v w : ℕ × ℕ × ℕ × ℕ} (a b : Drawn) → drawn_of a ≡ some v → drawn_of b ≡ some w → v ≡ w → a ≡ b
+drawn_only : {v w : ℕ × ℕ × ℕ × ℕ} (a b : Drawn) → drawn_of a ≡ Some v → drawn_of b ≡ Some w → v ≡ w → a ≡ b
 drawn_only (drawn.Case p n c k) (drawn.Case q m d j) e f h =
-    let s = some-injective _ _ (e ∙ ap some h ∙ sym f) in
+    let s = same_Some _ _ (e ∙ ap Some h ∙ sym f) in
     λ i. drawn.Case (s i).0 (s i).1 (s i).2 (s i).3
-drawn_only (drawn.Case p n c k) (drawn.Wrong j l y) e f h = absurd (none-ne-some _ f)
-drawn_only (drawn.Wrong i l x) b e f h = absurd (none-ne-some _ e)
+drawn_only (drawn.Case p n c k) (drawn.Wrong j l y) e f h = absurd (none-some _ f)
+drawn_only (drawn.Wrong i l x) b e f h = absurd (none-some _ e)
 
-wrong_only : {v w : Spot × meant.Expected} (a b : Drawn) → wrong_of a ≡ some v → wrong_of b ≡ some w → v ≡ w → a ≡ b
+wrong_only : {v w : Spot × meant.Expected} (a b : Drawn) → wrong_of a ≡ Some v → wrong_of b ≡ Some w → v ≡ w → a ≡ b
 wrong_only (drawn.Wrong i k x) (drawn.Wrong j l y) e f h =
-    let s = some-injective _ _ (e ∙ ap some h ∙ sym f) in
+    let s = same_Some _ _ (e ∙ ap Some h ∙ sym f) in
     let same : x ≡ y = sym (code_back x) ∙ ap (λ t. code_of t.1) s ∙ code_back y in
     λ m. drawn.Wrong (s m).0.line (s m).0.cell (same m)
-wrong_only (drawn.Wrong i k x) (drawn.Case p n c j) e f h = absurd (none-ne-some _ f)
-wrong_only (drawn.Case p n c k) b e f h = absurd (none-ne-some _ e)
+wrong_only (drawn.Wrong i k x) (drawn.Case p n c j) e f h = absurd (none-some _ f)
+wrong_only (drawn.Case p n c k) b e f h = absurd (none-some _ e)
 
 pub design_once : {t : List ℕ} (r s : Design) → DesignIs t r → DesignIs t s → r ≡ s
 design_once r s (drawn_case c I v m cs) (drawn_case d K w n ds) =

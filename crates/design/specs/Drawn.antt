@@ -8,7 +8,7 @@
 --                   buffer is as it was
 -- Assumes nothing.
 use Rattle.std.specs.Prelude.{◌≡◌, List, ℕ, length, replicate}
-use Rattle.std.proofs.Math.Option.{Option, none, some}
+use Rattle.std.specs.Prelude.{Option, None, Some}
 use Rattle.meaning.specs.Bytes.{padded}
 use Rattle.meaning.specs.Bounds.{matrix_room, candidate_room}
 use Rattle.meaning.specs.Case.{Case, allowance_of, matrix_bytes, candidate_bytes}
@@ -25,25 +25,25 @@ use Rattle.design.specs.declared.Made.TheVariants as making
 use Rattle.design.specs.Expecting.{expected_as}
 
 abbrev pub drawn_of : Drawn → Option (ℕ × ℕ × ℕ × ℕ)
-drawn_of (drawn.Case p n allowance count) = some (p, n, allowance, count)
-drawn_of (drawn.Wrong line cell e) = none
+drawn_of (drawn.Case p n allowance count) = Some (p, n, allowance, count)
+drawn_of (drawn.Wrong line cell e) = None
 
 abbrev pub wrong_of : Drawn → Option (Spot × meant.Expected)
-wrong_of (drawn.Case p n allowance count) = none
-wrong_of (drawn.Wrong line cell e) = some (spot_at line cell, expected_as e)
+wrong_of (drawn.Case p n allowance count) = None
+wrong_of (drawn.Wrong line cell e) = Some (spot_at line cell, expected_as e)
 
 pub data DesignIs (t : List ℕ) (r : Design) : Type 0 where
-  drawn_case : (c : Case) → IsDesign t c → drawn_of r.answer ≡ some (c.p, c.n, allowance_of c, length c.candidates)
+  drawn_case : (c : Case) → IsDesign t c → drawn_of r.answer ≡ Some (c.p, c.n, allowance_of c, length c.candidates)
       → r.matrix ≡ padded matrix_room (matrix_bytes c) → r.candidates ≡ padded candidate_room (candidate_bytes c) → DesignIs t r
-  wrong_spot : (p : Spot) (e : meant.Expected) → ((c : Case) → ¬ IsDesign t c) → FirstWrong t p e → wrong_of r.answer ≡ some (p, e)
+  wrong_spot : (p : Spot) (e : meant.Expected) → ((c : Case) → ¬ IsDesign t c) → FirstWrong t p e → wrong_of r.answer ≡ Some (p, e)
       → r.matrix ≡ replicate matrix_room 0 → r.candidates ≡ replicate candidate_room 0 → DesignIs t r
 
 abbrev pub unmade_of : Made → Option (Spot × meant.Expected)
-unmade_of (making.Case w) = none
-unmade_of (making.Wrong line cell e) = some (spot_at line cell, expected_as e)
+unmade_of (making.Case w) = None
+unmade_of (making.Wrong line cell e) = Some (spot_at line cell, expected_as e)
 
 pub data MadeIs (t old : List ℕ) (r : Made) (new : List ℕ) : Type 0 where
   made_case : (c : Case) (w : Written) → IsDesign t c → r ≡ making.Case w
       → WriteCall c.p c.n (matrix_bytes c) (candidate_bytes c) (allowance_of c) old (written_of w) new → MadeIs t old r new
-  made_none : (p : Spot) (e : meant.Expected) → ((c : Case) → ¬ IsDesign t c) → FirstWrong t p e → unmade_of r ≡ some (p, e) → new ≡ old
+  made_none : (p : Spot) (e : meant.Expected) → ((c : Case) → ¬ IsDesign t c) → FirstWrong t p e → unmade_of r ≡ Some (p, e) → new ≡ old
       → MadeIs t old r new

@@ -7,7 +7,7 @@
 use mathlib.Core.Path.{◌≡◌, refl, sym, ap, ◌∙◌, subst}
 use mathlib.Core.Bool.{false, true≢false}
 use mathlib.Core.List.{List, [], ◌∷◌}
-use mathlib.Core.Option.{some}
+use Rattle.std.specs.Prelude.{Some}
 use Prim.Native.Nat.{ℕ, zero, suc}
 use native.Mathlib.Nat.{lt_irrefl}
 use native.Mathlib.Omega.{arith}
@@ -62,11 +62,11 @@ reason_alone q xs z = (go q, λ h. z)
 pub refused_alone : {x : Numbers} (q : Reason) (xs : List ℕ) → x ≡ numbers_of (as_refusal q) → AllZero xs → Alone x xs
 refused_alone q xs e z = subst (λ y. Alone y xs) (sym e) (reason_alone q xs z)
 
-pub inverse_read_lem : (p a r : ℕ) → InverseCall p a (given (some r)) → InverseCall p a (given (inverse_in r))
+pub inverse_read_lem : (p a r : ℕ) → InverseCall p a (given (Some r)) → InverseCall p a (given (inverse_in r))
 inverse_read_lem p a r C =
     let (q, I) = called_given C in
     rw (ne_eqb r no_inverse (λ e. omega (arith, (inverse_sound p a q).1, I.1.below))) C
 
-pub least_read : (p n : ℕ) (m : List ℕ) (t : ℕ) → PeriodCall p n m (given (some t)) → PeriodCall p n m (given (period_in t))
+pub least_read : (p n : ℕ) (m : List ℕ) (t : ℕ) → PeriodCall p n m (given (Some t)) → PeriodCall p n m (given (period_in t))
 least_read p n m zero C = absurd (lt_irrefl 0 (called_given C).1.0)
 least_read p n m (suc t) C = C

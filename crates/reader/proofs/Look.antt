@@ -10,7 +10,7 @@
 use mathlib.Core.Path.{◌≡◌, refl, sym, ap, ap₂, subst, ◌∙◌}
 use mathlib.Core.Bool.{false}
 use mathlib.Core.List.{List, [], ◌∷◌, ◌++◌}
-use mathlib.Core.Option.{some}
+use Rattle.std.specs.Prelude.{Some}
 use Prim.Native.Nat.{ℕ, suc, ◌+◌, ◌-◌, ◌≤◌}
 use native.Mathlib.Omega.{arith}
 use lib.ListN.{length, get_or, take, drop, length-drop, take-append-drop}
@@ -56,7 +56,7 @@ pub record Peeked (s : List ℕ) (at : ℕ) (x : Record) (a : Ahead) : Type 0 wh
   pub said : Step
   pub next : ℕ
   pub ahead : a ≡ ahead.Record said next
-  pub is : record_of s (stepped_to said at next) ≡ some x
+  pub is : record_of s (stepped_to said at next) ≡ Some x
   pub behind : next ≡ at + length (record_bytes x)
 
 peek_field : {s : List ℕ} {at p n : ℕ} → LiesAt s at (255 ∷ 70 ∷ p ∷ n ∷ []) → Peeked s at (field p n) (field_at at (drop at s))
@@ -77,13 +77,13 @@ module _ {s : List ℕ} {at : ℕ} (n : ℕ) where
   unfolding body_at record_bytes
   peek_row {l} L k =
       rw (L.there, le-ltb (length (255 ∷ 82 ∷ (l ++ L.rest))) 2 (omega arith))
-      (record { said = step.Row; next = at + 2 + n; ahead = refl; is = ap (λ v. some (row v)) (slice_entries n L k); behind = omega arith })
+      (record { said = step.Row; next = at + 2 + n; ahead = refl; is = ap (λ v. Some (row v)) (slice_entries n L k); behind = omega arith })
 
   peek_candidate : {l : List ℕ} → LiesAt s at (255 ∷ 67 ∷ l) → length l ≡ n → Peeked s at (candidate l) (body_at n at (drop at s))
   unfolding body_at record_bytes
   peek_candidate {l} L k =
       rw (L.there, le-ltb (length (255 ∷ 67 ∷ (l ++ L.rest))) 2 (omega arith))
-      (record { said = step.Candidate; next = at + 2 + n; ahead = refl; is = ap (λ v. some (candidate v)) (slice_entries n L k); behind = omega arith })
+      (record { said = step.Candidate; next = at + 2 + n; ahead = refl; is = ap (λ v. Some (candidate v)) (slice_entries n L k); behind = omega arith })
 
   peek_end : LiesAt s at (255 ∷ 69 ∷ []) → Peeked s at end (body_at n at (drop at s))
   unfolding body_at record_bytes

@@ -9,7 +9,8 @@
 -- Assumes nothing.
 use mathlib.Core.Path.{◌≡◌, refl, sym, ap, ap₂, subst, ◌∙◌}
 use mathlib.Core.List.{List, ◌++◌, append_cancel_left}
-use mathlib.Core.Option.{some, none-ne-some, some-injective}
+use Rattle.std.specs.Prelude.{Some}
+use Rattle.std.proofs.lemmas.Option.{none-some, same_Some}
 use Prim.Native.Nat.{ℕ, ◌+◌, ◌-◌, ◌<◌, ◌≤◌}
 use native.Mathlib.Omega.{arith}
 use lib.ListN.{length, take, drop, length-take, length-drop, length-append}
@@ -100,7 +101,7 @@ ahead_same : {x y : Step} {e f : ℕ} → ahead.Record x e ≡ ahead.Record y f 
 ahead_same h = (cc, cc)
 
 peeked_is : {s : List ℕ} {at e : ℕ} {x : Record} {y : Step} {a : Ahead} → Peeked s at x a → a ≡ ahead.Record y e
-    → (record_of s (stepped_to y at e) ≡ some x) × (e ≡ at + length (record_bytes x))
+    → (record_of s (stepped_to y at e) ≡ Some x) × (e ≡ at + length (record_bytes x))
 peeked_is {s} {at} P h =
     let same = ahead_same (sym h ∙ P.ahead) in
     (ap₂ (λ z j. record_of s (stepped_to z at j)) same.0 same.1 ∙ P.is, same.1 ∙ P.behind)
@@ -174,28 +175,28 @@ step_of (row l) = step.Row
 step_of (candidate l) = step.Candidate
 step_of end = step.End
 
-step-known : (l : List ℕ) (a : Step) (x : Record) → record_with l a ≡ some x → a ≡ step_of x
-step-known l (step.Field p n) x h = ap step_of (some-injective _ _ h)
-step-known l (step.Allow high low) x h = ap step_of (some-injective _ _ h)
-step-known l step.Row x h = ap step_of (some-injective _ _ h)
-step-known l step.Candidate x h = ap step_of (some-injective _ _ h)
-step-known l step.End x h = ap step_of (some-injective _ _ h)
-step-known l step.Over x h = absurd (none-ne-some _ h)
-step-known l (step.Refused j) x h = absurd (none-ne-some _ h)
+step-known : (l : List ℕ) (a : Step) (x : Record) → record_with l a ≡ Some x → a ≡ step_of x
+step-known l (step.Field p n) x h = ap step_of (same_Some _ _ h)
+step-known l (step.Allow high low) x h = ap step_of (same_Some _ _ h)
+step-known l step.Row x h = ap step_of (same_Some _ _ h)
+step-known l step.Candidate x h = ap step_of (same_Some _ _ h)
+step-known l step.End x h = ap step_of (same_Some _ _ h)
+step-known l step.Over x h = absurd (none-some _ h)
+step-known l (step.Refused j) x h = absurd (none-some _ h)
 
-pub step_refused : (a : Step) (k : ℕ) → refusal_of a ≡ some (8, k) → a ≡ step.Refused k
-step_refused (step.Field p n) k h = absurd (none-ne-some _ h)
-step_refused (step.Allow high low) k h = absurd (none-ne-some _ h)
-step_refused step.Row k h = absurd (none-ne-some _ h)
-step_refused step.Candidate k h = absurd (none-ne-some _ h)
-step_refused step.End k h = absurd (none-ne-some _ h)
-step_refused step.Over k h = absurd (none-ne-some _ h)
-step_refused (step.Refused j) k h = ap (λ x. step.Refused x.1) (some-injective _ _ h)
+pub step_refused : (a : Step) (k : ℕ) → refusal_of a ≡ Some (8, k) → a ≡ step.Refused k
+step_refused (step.Field p n) k h = absurd (none-some _ h)
+step_refused (step.Allow high low) k h = absurd (none-some _ h)
+step_refused step.Row k h = absurd (none-some _ h)
+step_refused step.Candidate k h = absurd (none-some _ h)
+step_refused step.End k h = absurd (none-some _ h)
+step_refused step.Over k h = absurd (none-some _ h)
+step_refused (step.Refused j) k h = ap (λ x. step.Refused x.1) (same_Some _ _ h)
 
 next_same : {s : List ℕ} {at : ℕ} {x y : Record} → NextRecord s at x → NextRecord s at y → x ≡ y
 next_same M N =
     let Q = next_peeked N refl in
-    some-injective _ _ (sym (peeked_is (next_peeked M refl) Q.ahead).0 ∙ Q.is)
+    same_Some _ _ (sym (peeked_is (next_peeked M refl) Q.ahead).0 ∙ Q.is)
 
 next_ended : {s : List ℕ} {at : ℕ} {x : Record} → NextRecord s at x → Ended s at → ⊥
 next_ended {x = x} N E = omega (arith, (next_standing N).within, record_long x, E.length_of)

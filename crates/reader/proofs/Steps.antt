@@ -17,7 +17,8 @@
 use mathlib.Core.Path.{◌≡◌, refl, sym, ap, subst, ◌∙◌}
 use mathlib.Core.Logic.{◌⊎◌, ⊎_elim}
 use mathlib.Core.List.{List, [], ◌∷◌, ◌++◌, append_assoc, append-nil}
-use mathlib.Core.Option.{some, none-ne-some, some-injective}
+use Rattle.std.specs.Prelude.{Some}
+use Rattle.std.proofs.lemmas.Option.{none-some, same_Some}
 use Prim.Native.Nat.{ℕ, zero, suc, ◌+◌, ◌≤◌}
 use native.Mathlib.Decide.{dec_le}
 use native.Mathlib.Nat.{le_refl, le_antisymm}
@@ -88,16 +89,16 @@ moved_unique {a = a} {b = b} {x = x} {y = y} m n =
     (λ i. record { src = src i; at = at i }, same)
 
 -- what one step hands out
-handed_next : {s : List ℕ} {at : ℕ} {x : Record} {r : Stepped} → StepIs s at r → record_of s r ≡ some x
+handed_next : {s : List ℕ} {at : ℕ} {x : Record} {r : Stepped} → StepIs s at r → record_of s r ≡ Some x
     → NextRecord s at x × (r.next.at ≡ at + length (record_bytes x))
 handed_next {s} {at} {x} {r} (hands y N h d e) k =
-    let same : y ≡ x = some-injective _ _ (sym h ∙ k) in
+    let same : y ≡ x = same_Some _ _ (sym h ∙ k) in
     (subst (NextRecord s at) same N, e ∙ ap (λ z. at + length (record_bytes z)) same)
-handed_next {s} {r = r} (over E h d e) k = absurd (none-ne-some _ (ap (record_with (entries_in s r)) (sym h) ∙ k))
-handed_next {s} {r = r} (refuses j n m P h d e) k = absurd (none-ne-some _ (ap (record_with (entries_in s r)) (sym (step_refused r.step j h)) ∙ k))
+handed_next {s} {r = r} (over E h d e) k = absurd (none-some _ (ap (record_with (entries_in s r)) (sym h) ∙ k))
+handed_next {s} {r = r} (refuses j n m P h d e) k = absurd (none-some _ (ap (record_with (entries_in s r)) (sym (step_refused r.step j h)) ∙ k))
 
 -- what is handed out is what the next record is
-next-step : {s : List ℕ} {at : ℕ} {x : Record} → NextRecord s at x → (r : Stepped) × StepIs s at r × (record_of s r ≡ some x) × (r.next.at ≡ at + length (record_bytes x))
+next-step : {s : List ℕ} {at : ℕ} {x : Record} → NextRecord s at x → (r : Stepped) × StepIs s at r × (record_of s r ≡ Some x) × (r.next.at ≡ at + length (record_bytes x))
 next-step {s} {at} {x} N =
     let P = next_peeked N refl in
     (stepped_to P.said at P.next, hands x N P.is refl P.behind, P.is, P.behind)

@@ -15,7 +15,7 @@
 --   Moved q q' r      the reader q gives the answer r, and is q' behind it: the same bytes, at the offset for the next step
 -- Assumes nothing.
 use Rattle.std.specs.Prelude.{◌≡◌, List, [], ◌∷◌, ◌++◌, ℕ, ◌+◌, ◌<◌, ◌≤◌, length, take}
-use Rattle.std.proofs.Math.Option.{Option, none, some}
+use Rattle.std.specs.Prelude.{Option, None, Some}
 use Rattle.std.proofs.Math.Seq.{slice}
 use Rattle.std.specs.Borrow.{Bor}
 use Rattle.meaning.specs.Case.{Record, record_bytes, flat, Case, records, WellFormed, IsCase, Place}
@@ -44,25 +44,25 @@ pub record Stretch (s : Bor (List ℕ)) (a : ℕ) (l : List ℕ) (t : Bor (List 
 
 -- the record of a step with the entries l
 abbrev pub record_with : List ℕ → Step → Option Record
-record_with l (Field p n) = some (field p n)
-record_with l (Allow high low) = some (allow high low)
-record_with l Row = some (row l)
-record_with l Candidate = some (candidate l)
-record_with l End = some end
-record_with l Over = none
-record_with l (Refused k) = none
+record_with l (Field p n) = Some (field p n)
+record_with l (Allow high low) = Some (allow high low)
+record_with l Row = Some (row l)
+record_with l Candidate = Some (candidate l)
+record_with l End = Some end
+record_with l Over = None
+record_with l (Refused k) = None
 
 abbrev pub record_of : List ℕ → Stepped → Option Record
 record_of s r = record_with (entries_in s r) r.step
 
 abbrev pub refusal_of : Step → Option (ℕ × ℕ)
-refusal_of (Field p n) = none
-refusal_of (Allow high low) = none
-refusal_of Row = none
-refusal_of Candidate = none
-refusal_of End = none
-refusal_of Over = none
-refusal_of (Refused k) = some (8, k)
+refusal_of (Field p n) = None
+refusal_of (Allow high low) = None
+refusal_of Row = None
+refusal_of Candidate = None
+refusal_of End = None
+refusal_of Over = None
+refusal_of (Refused k) = Some (8, k)
 
 pub record NextRecord (s : List ℕ) (at : ℕ) (x : Record) : Type 0 where
   pub case : Case
@@ -79,9 +79,9 @@ pub record Ended (s : List ℕ) (at : ℕ) : Type 0 where
   pub length_of : at ≡ length s
 
 pub data StepIs (s : List ℕ) (at : ℕ) (r : Stepped) : Type 0 where
-  hands : (x : Record) → NextRecord s at x → record_of s r ≡ some x → r.from.at ≡ at → r.next.at ≡ at + length (record_bytes x) → StepIs s at r
+  hands : (x : Record) → NextRecord s at x → record_of s r ≡ Some x → r.from.at ≡ at → r.next.at ≡ at + length (record_bytes x) → StepIs s at r
   over : Ended s at → r.step ≡ Over → r.from.at ≡ at → r.next.at ≡ at → StepIs s at r
-  refuses : (k : ℕ) → ((x : Record) → ¬ NextRecord s at x) → ¬ Ended s at → Place s k → refusal_of r.step ≡ some (8, k) → r.from.at ≡ at → r.next.at ≡ at
+  refuses : (k : ℕ) → ((x : Record) → ¬ NextRecord s at x) → ¬ Ended s at → Place s k → refusal_of r.step ≡ Some (8, k) → r.from.at ≡ at → r.next.at ≡ at
       → StepIs s at r
 
 abbrev pub stepped_to : Step → ℕ → ℕ → Stepped
@@ -89,7 +89,7 @@ stepped_to x from next = record { step = x; from = record { at = from }; next = 
 
 pub data Handed (s : List ℕ) : List Record → ℕ → Type 0 where
   at_front : Handed s [] 0
-  more : {xs : List Record} {at : ℕ} {x : Record} (r : Stepped) → Handed s xs at → StepIs s at r → record_of s r ≡ some x → Handed s (xs ++ (x ∷ [])) r.next.at
+  more : {xs : List Record} {at : ℕ} {x : Record} (r : Stepped) → Handed s xs at → StepIs s at r → record_of s r ≡ Some x → Handed s (xs ++ (x ∷ [])) r.next.at
 
 pub record Ends (s : List ℕ) (xs : List Record) (e : Step) : Type 0 where
   pub at : ℕ

@@ -4,7 +4,7 @@
 --   checked_of x     what a test, or a list of tests, gives
 --   cell_of x        the cell of a bad entry that was found
 -- Assumes nothing.
-use Rattle.std.proofs.Math.Option.{Option, none, some}
+use Rattle.std.specs.Prelude.{Option, None, Some}
 use Rattle.meaning.specs.Entry.{Cell}
 use Rattle.meaning.specs.Refusal.{Refusal, alone, at}
 use Rattle.reasons.specs.declared.Reason.{Reason}
@@ -32,9 +32,9 @@ numbers_of (alone k) = record { number = k; row = 0; column = 0 }
 numbers_of (at k r c) = record { number = k; row = r; column = c }
 
 abbrev pub checked_of : Checked → Option Refusal
-checked_of (checked.Refused r) = some (as_refusal r)
-checked_of checked.Passed = none
+checked_of (checked.Refused r) = Some (as_refusal r)
+checked_of checked.Passed = None
 
 abbrev pub cell_of : BadCell → Option Cell
-cell_of (bad_cell.At r c) = some (record { row = r; column = c })
-cell_of bad_cell.Nowhere = none
+cell_of (bad_cell.At r c) = Some (record { row = r; column = c })
+cell_of bad_cell.Nowhere = None

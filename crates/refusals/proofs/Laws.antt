@@ -9,15 +9,15 @@
 use mathlib.Core.Path.{◌≡◌, refl, sym, ap, ap₂, ◌∙◌}
 use mathlib.Core.Bool.{Bool, true, false, ◌||◌}
 use mathlib.Core.List.{List, [], ◌∷◌, ◌++◌}
-use mathlib.Core.Option.{Option, none, some}
+use Rattle.std.specs.Prelude.{Option, None, Some}
 use Prim.Native.Nat.{ℕ}
 use Rattle.meaning.specs.Refusal.{Refusal, refuse, too_short, first}
 use Rattle.meaning.proofs.Refusal.{first_front}
 
 first_one : (t : Option Refusal) → t ≡ first (t ∷ [])
 unfolding first
-first_one (some q) = refl
-first_one none = refl
+first_one (Some q) = refl
+first_one None = refl
 
 pub one : {x t : Option Refusal} → x ≡ t → x ≡ first (t ∷ [])
 one {t = t} e = e ∙ first_one t
@@ -25,8 +25,8 @@ one {t = t} e = e ∙ first_one t
 first_join : (ts us : List (Option Refusal)) → first (first ts ∷ first us ∷ []) ≡ first (ts ++ us)
 unfolding first
 first_join [] us = sym (first_one (first us))
-first_join (some q ∷ ts) us = refl
-first_join (none ∷ ts) us = first_join ts us
+first_join (Some q ∷ ts) us = refl
+first_join (None ∷ ts) us = first_join ts us
 
 pub earlier_join : {x a b : Option Refusal} (ts us : List (Option Refusal)) → x ≡ first (a ∷ b ∷ []) → a ≡ first ts → b ≡ first us → x ≡ first (ts ++ us)
 earlier_join ts us e f g = e ∙ ap₂ (λ a b. first (a ∷ b ∷ [])) f g ∙ first_join ts us
@@ -46,5 +46,5 @@ pub long_by : {x : Option Refusal} {j k : ℕ} (out : List ℕ) → j ≡ k → 
 long_by out e f = f ∙ ap (λ i. refuse 6 (too_short i out)) e
 
 -- a list that was run by its front: what that refused is refused
-pub refused_on : {q : Refusal} (ts us : List (Option Refusal)) → some q ≡ first ts → some q ≡ first (ts ++ us)
+pub refused_on : {q : Refusal} (ts us : List (Option Refusal)) → Some q ≡ first ts → Some q ≡ first (ts ++ us)
 refused_on ts us e = sym (first_front ts us (sym e))

@@ -8,7 +8,7 @@
 -- Assumes nothing.
 use mathlib.Core.Path.{◌≡◌, refl, sym, ap, ap₂, ◌∙◌, subst}
 use mathlib.Core.List.{List, [], ◌∷◌, ◌++◌, map, append_assoc}
-use mathlib.Core.Option.{Option, none, some}
+use Rattle.std.specs.Prelude.{Option, None, Some}
 use Prim.Native.Nat.{ℕ, suc, ◌+◌, ◌-◌, ◌^◌, ◌<◌, ◌≤◌}
 use native.Mathlib.Numerals.{add-one}
 use native.Mathlib.Nat.{le_refl}
@@ -104,8 +104,8 @@ chained_given {n = n} {count} {stages = stages} {old = old} (chained.Stages k) P
 chained_given {count = count} (chained.Refused k) P q R = absurd (refused_given _ count q)
 
 perioded_given : (r : Perioded) (t : Option ℕ) → perioded_of r ≡ given t → perioded_lines r ≡ period_line t ∷ []
-perioded_given (perioded.Least k) t q = let z : some k ≡ t = cc in ap (λ t. period_line t ∷ []) z
-perioded_given perioded.Never t q = let z : none ≡ t = cc in ap (λ t. period_line t ∷ []) z
+perioded_given (perioded.Least k) t q = let z : Some k ≡ t = cc in ap (λ t. period_line t ∷ []) z
+perioded_given perioded.Never t q = let z : None ≡ t = cc in ap (λ t. period_line t ∷ []) z
 perioded_given (perioded.Refused k) t q = absurd (refused_given _ t q)
 
 pub record CaseAnswers : Type 0 where

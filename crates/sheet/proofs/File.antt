@@ -6,7 +6,7 @@
 -- Assumes nothing.
 use mathlib.Core.Path.{◌≡◌, refl, sym, ap, ap₂, ◌∙◌, subst}
 use mathlib.Core.List.{List, [], ◌∷◌}
-use mathlib.Core.Option.{none-ne-some, some-injective}
+use Rattle.std.proofs.lemmas.Option.{none-some, same_Some}
 use Prim.Native.Nat.{ℕ, ◌*◌, ◌^◌, ◌<◌, ◌≤◌}
 use lib.ListN.{length, take}
 use Rattle.meaning.specs.Bounds.{Sound, SoundRows, matrix_room, candidate_room}
@@ -38,7 +38,7 @@ pub record CaseRead (s : List ℕ) (p n a count : ℕ) (m cs : List ℕ) : Type 
 pub read_case : {s : List ℕ} {r : Contents} {p n a count : ℕ} → ReadIs s r → r.answer ≡ answer.Case p n a count → CaseRead s p n a count r.matrix r.candidates
 read_case {s} {r} {p} {n} {a} {count} (reads c i v f g) q =
     let w = i.well_formed in
-    let e = some-injective (p, n, a, count) (c.p, c.n, allowance_of c, length c.candidates) (sym (ap values_of q) ∙ v) in
+    let e = same_Some (p, n, a, count) (c.p, c.n, allowance_of c, length c.candidates) (sym (ap values_of q) ∙ v) in
     let size : c.n ≡ n = sym (ap (λ x. x.1) e) in
     let number : length c.candidates ≡ count = sym (ap (λ x. x.3) e) in
     let sizes = read_sizes (reads c i v f g) q in
@@ -53,7 +53,7 @@ read_case {s} {r} {p} {n} {a} {count} (reads c i v f g) q =
       entries = sizes.0;
       rows = sizes.1;
     }
-read_case (refuses k none_is at v f g) q = absurd (none-ne-some _ (sym (ap read_refusal q) ∙ v))
+read_case (refuses k none_is at v f g) q = absurd (none-some _ (sym (ap read_refusal q) ∙ v))
 
 -- what holds of the case's values holds of those read
 carried : (P : ℕ → ℕ → List ℕ → List ℕ → ℕ → Type 0) {s : List ℕ} {p n a count : ℕ} {m cs : List ℕ} (R : CaseRead s p n a count m cs)

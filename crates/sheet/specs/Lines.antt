@@ -15,7 +15,7 @@
 --   FileText s t                 the text t is the sheet of the file s
 -- Assumes nothing.
 use Rattle.std.specs.Prelude.{List, [], ◌∷◌, ◌++◌, ℕ, zero, suc, ◌+◌, ◌≤◌, length, take, drop}
-use Rattle.std.proofs.Math.Option.{none, some}
+use Rattle.std.specs.Prelude.{None, Some}
 use Prim.Native.String.{String}
 use Rattle.meaning.specs.Line.{Line, text}
 use Rattle.meaning.specs.Sheet.{period_line, SheetLines, IsSheet, sheet_room}
@@ -79,8 +79,8 @@ ChainedFits n (chained.Stages k) product l = (n + 1 ≤ length product) × Stage
 ChainedFits n (chained.Refused k) product l = Unit {0}
 
 abbrev pub perioded_lines : Perioded → List Line
-perioded_lines (perioded.Least t) = period_line (some t) ∷ []
-perioded_lines perioded.Never = period_line none ∷ []
+perioded_lines (perioded.Least t) = period_line (Some t) ∷ []
+perioded_lines perioded.Never = period_line None ∷ []
 perioded_lines (perioded.Refused k) = []
 
 pub record CaseText (p n : ℕ) (m cs : List ℕ) (a : ℕ) (t : Text) : Type 0 where

@@ -3,7 +3,7 @@
 #![tactic(auto)]
 
 ghost use Rattle.std.specs.Prelude.{◌≡◌, ◌∷◌, [], map, ◌+◌, length};
-ghost use Rattle.std.proofs.Math.Option.{some};
+ghost use Rattle.std.specs.Prelude.{Some};
 ghost use Rattle.meaning.specs.Design.{said, spot_at, halves_in, byte_in, cell_bytes, cells_in, cells_said, line_said, end_of, text_said};
 ghost use Rattle.spelling.specs.Trace.{step, steps, started, pieces_from};
 
@@ -62,7 +62,7 @@ fn say(t: Trace, b: u8, line: usize, cell: usize, out: &mut [u8]) -> Trace
 
 // The halves of an allowance.
 fn say_halves(t: Trace, v: u32, line: usize, cell: usize, out: &mut [u8]) -> Trace
-    ensures { (result, out.new) ≡ steps (t, out.old) (map (said (spot_at line cell)) (halves_in (some v))) }
+    ensures { (result, out.new) ≡ steps (t, out.old) (map (said (spot_at line cell)) (halves_in (Some v))) }
 {
     if MOST_ALLOWANCE < v {
         return say(t, NO_BYTE, line, cell, out);
@@ -74,7 +74,7 @@ fn say_halves(t: Trace, v: u32, line: usize, cell: usize, out: &mut [u8]) -> Tra
 // An entry.
 #[tactic(auto, using(crate::proofs::Saying::entry_said, crate::proofs::Saying::entry_none))]
 fn say_entry(t: Trace, v: u32, line: usize, cell: usize, out: &mut [u8]) -> Trace
-    ensures { (result, out.new) ≡ steps (t, out.old) (said (spot_at line cell) (byte_in (some v)) ∷ []) }
+    ensures { (result, out.new) ≡ steps (t, out.old) (said (spot_at line cell) (byte_in (Some v)) ∷ []) }
 {
     if v < NO_BYTE as u32 {
         return say(t, v as u8, line, cell, out);

@@ -1,7 +1,7 @@
 -- `calls::chain` meets its contract: where the refusal is none, the inputs are sound; the stages come from `stages`, and their product and their
 -- record are put to the front of their buffers. Assumes nothing.
 use mathlib.Core.Path.{◌≡◌, sym}
-use mathlib.Core.Option.{none}
+use Rattle.std.specs.Prelude.{None}
 use Prim.Native.Nat.{◌+◌, ◌≤◌}
 use native.Mathlib.Omega.{arith}
 use borrow.Author.Rules.{rules}
@@ -17,7 +17,7 @@ use Rattle.calls.proofs.chain.Goals as goal
 use Rattle.calls.proofs.chain.Goals.{After-link-links, In_default}
 
 taken : (c : In_default) → let x = c.args in
-    chain_refusal x.p x.n x.m.now x.cs.now x.product.now x.stages.now ≡ none
+    chain_refusal x.p x.n x.m.now x.cs.now x.product.now x.stages.now ≡ None
 taken c = sym c.in_default.ensures
 
 pub returns-in-Refused : goal.returns-in-Refused

@@ -1,7 +1,7 @@
 -- `calls::image` meets its contract: where the refusal is none, the inputs are sound, and the worker writes the front of the buffer.
 -- Assumes nothing.
 use mathlib.Core.Path.{◌≡◌, sym, ◌∙◌}
-use mathlib.Core.Option.{none}
+use Rattle.std.specs.Prelude.{None}
 use Prim.Native.Nat.{◌≤◌}
 use native.Mathlib.Omega.{arith}
 use lib.ListN.{length}
@@ -15,7 +15,7 @@ use Rattle.meaning.specs.Bounds.{widest}
 use Rattle.calls.proofs.image.Goals as goal
 use Rattle.calls.proofs.image.Goals.{In_default}
 
-taken : (c : In_default) → let x = c.args in image_refusal x.p x.n x.m.now x.v.now x.f.now x.out.now ≡ none
+taken : (c : In_default) → let x = c.args in image_refusal x.p x.n x.m.now x.v.now x.f.now x.out.now ≡ None
 taken c = sym c.in_default.ensures
 
 pub returns-in-Refused : goal.returns-in-Refused

@@ -1,6 +1,6 @@
 -- `calls::inverse` meets its contract: where the refusal is none, the scalar is below a prime; it is 0, or has an inverse. Assumes nothing.
 use mathlib.Core.Path.{◌≡◌, sym}
-use mathlib.Core.Option.{none}
+use Rattle.std.specs.Prelude.{None}
 use native.Mathlib.Nat.{pos_of_ne-zero}
 use native.Mathlib.Omega.{arith}
 use Rattle.meaning.specs.Refusal.{inverse_refusal}
@@ -9,7 +9,7 @@ use Rattle.meaning.proofs.Called.{refused_by, given_by}
 use Rattle.calls.proofs.inverse.Goals as goal
 use Rattle.calls.proofs.inverse.Goals.{In_default}
 
-taken : (c : In_default) → let x = c.args in inverse_refusal x.p x.a ≡ none
+taken : (c : In_default) → let x = c.args in inverse_refusal x.p x.a ≡ None
 taken c = sym c.in_default.ensures
 
 pub returns-in-Refused : goal.returns-in-Refused

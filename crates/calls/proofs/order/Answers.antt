@@ -1,7 +1,7 @@
 -- `calls::order` meets its contract: where the refusal is none, the inputs are sound; spun over no rows, the row's relative order is its order,
 -- and its first n + 1 coefficients are put to the front of the buffer. Assumes nothing.
 use mathlib.Core.Path.{◌≡◌, sym}
-use mathlib.Core.Option.{none}
+use Rattle.std.specs.Prelude.{None}
 use Prim.Native.Nat.{◌+◌, ◌≤◌}
 use native.Mathlib.Omega.{arith}
 use lib.ListN.{length, replicate, length-take}
@@ -14,7 +14,7 @@ use Rattle.calls.proofs.Laws.{order_written}
 use Rattle.calls.proofs.order.Goals as goal
 use Rattle.calls.proofs.order.Goals.{After-spin-f, In_default}
 
-taken : (c : In_default) → let x = c.args in order_refusal x.p x.n x.m.now x.v.now x.out.now ≡ none
+taken : (c : In_default) → let x = c.args in order_refusal x.p x.n x.m.now x.v.now x.out.now ≡ None
 taken c = sym c.in_default.ensures
 
 pub returns-in-Refused : goal.returns-in-Refused

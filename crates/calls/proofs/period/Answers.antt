@@ -1,6 +1,6 @@
 -- `calls::period` meets its contract: where the refusal is none, the inputs are sound, and the worker's answer is the period. Assumes nothing.
 use mathlib.Core.Path.{◌≡◌, sym}
-use mathlib.Core.Option.{none}
+use Rattle.std.specs.Prelude.{None}
 use native.Mathlib.Omega.{arith}
 use Rattle.meaning.specs.Refusal.{period_refusal}
 use Rattle.meaning.proofs.Refusal.{period_sound}
@@ -8,7 +8,7 @@ use Rattle.meaning.proofs.Called.{refused_by, given_by}
 use Rattle.calls.proofs.period.Goals as goal
 use Rattle.calls.proofs.period.Goals.{In_default}
 
-taken : (c : In_default) → let x = c.args in period_refusal x.p x.n x.m.now ≡ none
+taken : (c : In_default) → let x = c.args in period_refusal x.p x.n x.m.now ≡ None
 taken c = sym c.in_default.ensures
 
 pub returns-in-Refused : goal.returns-in-Refused

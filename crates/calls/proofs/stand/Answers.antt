@@ -1,7 +1,7 @@
 -- `calls::stand` meets its contract: where the refusal is none, the inputs are sound; the rows taken and their lcm come from `taken`, its test from
 -- `witness`, and the polynomial and the witness's image are put to the front of their buffers. Assumes nothing.
 use mathlib.Core.Path.{◌≡◌, sym, ap₂}
-use mathlib.Core.Option.{none}
+use Rattle.std.specs.Prelude.{None}
 use Prim.Native.Nat.{◌+◌, ◌≤◌}
 use native.Mathlib.Omega.{arith}
 use borrow.Author.Rules.{rules}
@@ -24,7 +24,7 @@ use Rattle.calls.proofs.stand.Goals as goal
 use Rattle.calls.proofs.stand.Goals.{After-put-2, After-take_rows-gathered, After-witness_row-row, In_default}
 
 taken : (c : In_default) → let x = c.args in
-    stand_refusal x.p x.n x.m.now x.cs.now x.poly.now x.image.now ≡ none
+    stand_refusal x.p x.n x.m.now x.cs.now x.poly.now x.image.now ≡ None
 taken c = sym c.in_default.ensures
 
 pub returns-in-Refused : goal.returns-in-Refused
@@ -117,7 +117,7 @@ put-requires-2 c = simp length-take (omega (arith, room (goal.at.put-requires-2 
 -- the refusal is none once both buffers are written
 passed : (c : After-put-2) →
     let x = c.args in
-    stand_refusal x.p x.n x.m.now x.cs.now x.poly.now x.image.now ≡ none
+    stand_refusal x.p x.n x.m.now x.cs.now x.poly.now x.image.now ≡ None
 passed c = sym c.in_default.ensures
 
 -- what is given, with the standing and the witness as they were found

@@ -2,7 +2,7 @@
 -- Assumes nothing.
 use mathlib.Core.Path.{◌≡◌, sym, ap, ◌∙◌}
 use mathlib.Core.Bool.{true}
-use mathlib.Core.Option.{some}
+use Rattle.std.specs.Prelude.{Some}
 use Prim.Native.Nat.{ℕ, ◌+◌, ◌*◌, ◌≤◌}
 use borrow.Author.Tests.{not-true, not-false}
 use native.Mathlib.Omega.{arith}
@@ -42,7 +42,7 @@ overflow_add-value c = omega (arith, in-range (goal.at.overflow_add-value c).Els
 pub loop-i-preserved : goal.loop-i-preserved
 loop-i-preserved c =
     let L = c.loop-i in
-    let next = c.cap-value.ensures ∙ ap (λ d. capped (some (10 * L.value + d))) c.wide.ensures in (
+    let next = c.cap-value.ensures ∙ ap (λ d. capped (Some (10 * L.value + d))) c.wide.ensures in (
       omega (arith, c.cap-value.ensures, capped_most (10 * L.value + c.wide.result)),
       number_turn _ L.i L.value (omega arith) (digit (goal.at.loop-i-preserved c).Else-not-is_digit) next ∙ L.invariant.1,
     )

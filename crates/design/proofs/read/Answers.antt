@@ -1,7 +1,8 @@
 -- `design::read` meets its contract: a text that was gone through to its end is a design and is read as its case, and any other has a first thing that is
 -- wrong. Assumes nothing.
 use mathlib.Core.Path.{◌≡◌, refl, sym, ap, ◌∙◌}
-use mathlib.Core.Option.{Option, some, none-ne-some}
+use Rattle.std.specs.Prelude.{Option, Some}
+use Rattle.std.proofs.lemmas.Option.{none-some}
 use native.Mathlib.Omega.{arith}
 use lib.Seq.{length-take-le}
 use Rattle.meaning.specs.Design.{Spot, Expected}
@@ -11,8 +12,8 @@ use Rattle.design.proofs.Designed.{text_comes, calm_held, wrong_lost, held_withi
 use Rattle.design.proofs.read.Goals as goal
 
 -- what was expected is told with the spot
-told : {e f : Expected} (p : Spot) → e ≡ f → ◌≡◌ {A = Option (Spot × Expected)} (some (p, e)) (some (p, f))
-told p e = ap (λ x. some (p, x)) e
+told : {e f : Expected} (p : Spot) → e ≡ f → ◌≡◌ {A = Option (Spot × Expected)} (Some (p, e)) (Some (p, f))
+told p e = ap (λ x. Some (p, x)) e
 
 pub returns-then-trace : goal.returns-then-trace
 returns-then-trace c =
@@ -36,4 +37,4 @@ pub returns-in-Refused : goal.returns-in-Refused
 returns-in-Refused c =
     let H = calm_held (text_comes _ _ (omega arith) c.spell-trace.ensures) c.if-trace.false in
     let (case, I, A) = held_read _ H c.read-contents.ensures in
-    absurd (none-ne-some _ (sym (ap values_of c.in-Refused.is) ∙ A.values))
+    absurd (none-some _ (sym (ap values_of c.in-Refused.is) ∙ A.values))

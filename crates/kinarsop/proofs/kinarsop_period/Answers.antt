@@ -1,7 +1,7 @@
 -- `kinarsop_period` meets its contract: an answer is read as `calls::period` gave it. Assumes nothing.
 use mathlib.Core.Path.{refl}
 use mathlib.Core.List.{[], ◌∷◌}
-use mathlib.Core.Option.{Option}
+use Rattle.std.specs.Prelude.{Option}
 use Prim.Native.Nat.{ℕ}
 use Rattle.meaning.specs.Calls.{Answer, PeriodCall}
 use Rattle.kinarsop.proofs.AsGiven.{answered_as, answered_alone, refused_as, refused_alone, least_read}

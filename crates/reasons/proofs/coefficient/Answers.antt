@@ -1,6 +1,6 @@
 -- `reasons::coefficient` meets its contract: the cell is that of the place. Assumes nothing.
 use mathlib.Core.Path.{sym, ap}
-use mathlib.Core.Option.{map}
+use Rattle.std.specs.Prelude.{option_map}
 use native.Mathlib.Omega.{arith}
 use Rattle.meaning.specs.Refusal.{at, refuse_at, bad_coefficient}
 use Rattle.meaning.proofs.Entry.{first_bad_place}
@@ -17,4 +17,4 @@ returns-in-At c = coefficient_placed _ _ (sym c.in-At.ensures)
 
 pub returns-in-Nothing : goal.returns-in-Nothing
 unfolding refuse_at bad_coefficient
-returns-in-Nothing c = ap (map (λ k. at 11 k.row k.column)) (nowhere 0 _ _ _ (sym c.in-Nothing.ensures))
+returns-in-Nothing c = ap (option_map (λ k. at 11 k.row k.column)) (nowhere 0 _ _ _ (sym c.in-Nothing.ensures))

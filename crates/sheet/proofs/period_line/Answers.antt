@@ -1,7 +1,7 @@
 -- `sheet::period_line` meets its contract in each case of the answer. Assumes nothing.
 use mathlib.Core.Path.{refl, sym, subst}
 use mathlib.Core.List.{[]}
-use mathlib.Core.Option.{some}
+use Rattle.std.specs.Prelude.{Some}
 use Rattle.meaning.specs.Line.{spaced, line_bytes, text}
 use Rattle.meaning.specs.Sheet.{period_line}
 use Rattle.text.specs.Text.{HasRoom, Appended}
@@ -11,7 +11,7 @@ use Rattle.sheet.proofs.period_line.Goals as goal
 
 pub number_line-requires : goal.number_line-requires
 number_line-requires c =
-    line_room (period_line (some c.in-Least.k)) [] (subst (λ r. HasRoom c.args.t (text (perioded_lines r))) c.in-Least.is c.requires) (toward_start _ _)
+    line_room (period_line (Some c.in-Least.k)) [] (subst (λ r. HasRoom c.args.t (text (perioded_lines r))) c.in-Least.is c.requires) (toward_start _ _)
 
 pub word-requires : goal.word-requires
 unfolding text line_bytes spaced
@@ -21,7 +21,7 @@ pub returns-in-Least : goal.returns-in-Least
 unfolding text
 returns-in-Least c =
     subst (λ r. Appended c.args.t c.number_line.result (text (perioded_lines r))) (sym c.in-Least.is)
-    (toward_end (line_turn (period_line (some c.in-Least.k)) [] (toward_start _ _) c.number_line.ensures))
+    (toward_end (line_turn (period_line (Some c.in-Least.k)) [] (toward_start _ _) c.number_line.ensures))
 
 pub returns-in-Never : goal.returns-in-Never
 unfolding text line_bytes spaced
