@@ -8,7 +8,7 @@
 -- Assumes nothing.
 use mathlib.Core.Path.{◌≡◌, refl, sym, ap, subst, ◌∙◌}
 use mathlib.Core.List.{List, [], ◌∷◌, ◌++◌, flatten}
-use Rattle.std.specs.Prelude.{Option, Some}
+use Rattle.std.specs.Prelude.{Option, Some, Ok, Err}
 use Rattle.std.proofs.lemmas.Option.{none-some}
 use Prim.Native.Nat.{ℕ, ◌+◌, ◌-◌, ◌<◌}
 use native.Mathlib.Omega.{arith}
@@ -20,7 +20,6 @@ use Rattle.meaning.specs.Bounds.{matrix_room, candidate_room}
 use Rattle.reader.specs.declared.Step.TheVariants as step
 use Rattle.reader.specs.declared.Stepped.{Stepped}
 use Rattle.casefile.specs.declared.Numbers.{Numbers}
-use Rattle.casefile.specs.declared.Reading.TheVariants as answer
 use Rattle.reader.specs.Step.{entries_in, record_with, record_of, refusal_of, NextRecord, StepIs, Handed}
 use Rattle.reader.specs.Step.StepIs.{hands, over, refuses}
 use Rattle.reader.specs.Step.Handed.{at_front, more}
@@ -40,7 +39,7 @@ pub record Underway (s m cs : List ℕ) (v : Numbers) (at : ℕ) : Type 0 where
   pub candidate_size : length cs ≡ candidate_room
 
 pub underway_start : (s : List ℕ) {at : ℕ} → at ≡ 0
-    → Underway s (replicate matrix_room 0) (replicate candidate_room 0) (record { p = 0; n = 0; allowance = default_allowance; rows = 0; count = 0 }) at
+    → Underway s (replicate matrix_room 0) (replicate candidate_room 0) (record { case = record { p = 0; n = 0; allowance = default_allowance; count = 0 }; rows = 0 }) at
 unfolding noted_all flatten default_allowance
 underway_start s e = record {
   records = [];
@@ -81,14 +80,14 @@ module _ {s m cs : List ℕ} {v : Numbers} {at : ℕ} {r : Stepped} (P : Underwa
         candidate_size = P.candidate_size;
       }
 
-  pub underway_turn : {m' cs' : List ℕ} {v' : Numbers} → Noted s r v m cs v' m' cs' → length m' ≡ length m → length cs' ≡ length cs
-      → Underway s m' cs' v' r.next.at
+  pub underway_turn : {m' cs' : List ℕ} {v' : Numbers} {e : ℕ} → e ≡ r.next.at → Noted s r v m cs v' m' cs' → length m' ≡ length m
+      → length cs' ≡ length cs → Underway s m' cs' v' e
   unfolding underway_noting
-  underway_turn {m'} {cs'} {v'} N k l =
+  underway_turn {m'} {cs'} {v'} h N k l =
       let x = step_gives S o g in
       record {
         records = P.records ++ (x.next ∷ []);
-        handed = more r P.handed S x.hands_out;
+        handed = subst (Handed s _) (sym h) (more r P.handed S x.hands_out);
         holds = subst (λ c. Stored c v' m' cs') (sym (gathered_more P.records x.next)) (N underway_noting);
         matrix_size = k ∙ P.matrix_size;
         candidate_size = l ∙ P.candidate_size;
@@ -96,7 +95,7 @@ module _ {s m cs : List ℕ} {v : Numbers} {at : ℕ} {r : Stepped} (P : Underwa
 
 -- how reading ends
 pub underway_over : {s m cs : List ℕ} {v : Numbers} {at : ℕ} {r : Stepped} → Underway s m cs v at → StepIs s at r → r.step ≡ step.Over
-    → ReadIs s (record { answer = answer.Case v.p v.n v.allowance v.count; matrix = m; candidates = cs })
+    → ReadIs s (record { answer = Ok v.case; matrix = m; candidates = cs })
 underway_over {s} {r = r} P (hands x N f g k) e = absurd (none-some _ (ap (record_with (entries_in s r)) (sym e) ∙ f))
 underway_over {s} {m} {cs} {v} P (over E f g k) e =
     let H : Stored E.case v m cs = subst (λ c. Stored c v m cs) (handed_all P.handed E) P.holds in
@@ -108,7 +107,7 @@ underway_over {s} {m} {cs} {v} P (over E f g k) e =
 underway_over P (refuses k N E Q f g h) e = absurd (none-some _ (ap refusal_of (sym e) ∙ f))
 
 pub underway_refused : {s m cs : List ℕ} {v : Numbers} {at k : ℕ} {r : Stepped} → Underway s m cs v at → StepIs s at r → r.step ≡ step.Refused k
-    → ReadIs s (record { answer = answer.Refused k; matrix = replicate matrix_room 0; candidates = replicate candidate_room 0 })
+    → ReadIs s (record { answer = Err k; matrix = replicate matrix_room 0; candidates = replicate candidate_room 0 })
 underway_refused {s} {r = r} P (hands x N f g k) e = absurd (none-some _ (ap (record_with (entries_in s r)) (sym e) ∙ f))
 underway_refused P (over E f g k) e = absurd (none-some _ (ap refusal_of (sym f ∙ e)))
 underway_refused {k = j} P (refuses k N E Q f g h) e =

@@ -37,11 +37,11 @@ abbrev pub gathered : List Record → Case
 gathered xs = noted_all no_values xs
 
 pub record Stored (g : Case) (v : Numbers) (m cs : List ℕ) : Type 0 where
-  pub modulus : v.p ≡ g.p
-  pub order : v.n ≡ g.n
-  pub allowance : v.allowance ≡ allowance_of g
+  pub modulus : v.case.p ≡ g.p
+  pub order : v.case.n ≡ g.n
+  pub allowance : v.case.allowance ≡ allowance_of g
   pub rows : v.rows ≡ length g.matrix
-  pub count : v.count ≡ length g.candidates
+  pub count : v.case.count ≡ length g.candidates
   pub matrix : m ≡ padded matrix_room (matrix_bytes g)
   pub candidates : cs ≡ padded candidate_room (candidate_bytes g)
 
