@@ -56,11 +56,11 @@ line-said {m} {n} {z} {b} x before i {cells} {w} {ws} e l f g h =
     ∙ ap (λ c. steps (step (step x (said before 255)) (said (spot_at i 1) c)) (cells_said c i 2 ws)) l
     ∙ ap (λ v. steps x (line_said before i v)) (sym e)
 
-pub line_end : {j k : ℕ} (before : Spot) (i : ℕ) {cells : List (List ℕ)} {w : List ℕ} {ws : List (List ℕ)} → cells ≡ w ∷ ws → (j ≡ i) × (k ≡ 2 + length ws)
-    → spot_at j k ≡ end_of before i cells
-line_end before i {w = w} {ws = ws} e (f, g) =
+pub line_end : {p : Spot} (before : Spot) (i : ℕ) {cells : List (List ℕ)} {w : List ℕ} {ws : List (List ℕ)} → cells ≡ w ∷ ws
+    → p ≡ spot_at i (2 + length ws) → p ≡ end_of before i cells
+line_end before i {w = w} {ws = ws} e f =
     let n : 2 + length ws ≡ length (w ∷ ws) + 1 = omega arith in
-    ap₂ spot_at f (g ∙ n) ∙ ap (end_of before i) (sym e)
+    f ∙ ap (spot_at i) n ∙ ap (end_of before i) (sym e)
 
 pub word_within : {s r f : ℕ} {l : List ℕ} → UsedPart s l r → Piece s (take r l) 0 f → f ≤ length l
 word_within {s} {r} {f} {l} U P = omega (arith, P.within, U.within, length-take-le r l U.within)
@@ -91,9 +91,9 @@ lines_last {x} {y} {m} {n} {p} {s} {i} R e f g =
     g ∙ ap (λ t. step t (said (spot_at (p.line + 1) 1) 69)) f ∙ ap (λ k. step (step x (said p 255)) (said (spot_at k 1) 69)) (add-one p.line)
     ∙ ap (λ u. steps x (lines_said s p i u)) (sym e) ∙ R.comes
 
-ended_in : {j k : ℕ} (before : Spot) (i : ℕ) (ws : List (List ℕ)) → spot_at j k ≡ end_of before i ws → before.line ≤ i → j ≤ i
+ended_in : {p : Spot} (before : Spot) (i : ℕ) (ws : List (List ℕ)) → p ≡ end_of before i ws → before.line ≤ i → p.line ≤ i
 ended_in before i [] e h = omega (arith, ap (λ (p : Spot). p.line) e)
 ended_in before i (w ∷ ws) e h = omega (arith, ap (λ (p : Spot). p.line) e)
 
-pub end_line : {j k : ℕ} (before : Spot) (i s : ℕ) (l : List ℕ) → spot_at j k ≡ end_of before i (cells_in s l) → before.line ≤ i → j ≤ i
+pub end_line : {p : Spot} (before : Spot) (i s : ℕ) (l : List ℕ) → p ≡ end_of before i (cells_in s l) → before.line ≤ i → p.line ≤ i
 end_line before i s l = ended_in before i (cells_in s l)

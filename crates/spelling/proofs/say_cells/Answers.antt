@@ -1,8 +1,9 @@
 -- `spelling::say_cells` meets its contract. Invariant: what the cells from `at` on say comes to what all of them come to. Measure: what is left of the
 -- line. Assumes nothing.
-use mathlib.Core.Path.{refl}
+use mathlib.Core.Path.{refl, ap}
 use native.Mathlib.Omega.{arith}
 use borrow.Author.Rules.{rules}
+use Rattle.meaning.specs.Design.{spot_at}
 use Rattle.spelling.proofs.Pieces.{going_start, going_turn, going_end, pieces_past, pieces_turn}
 use Rattle.spelling.proofs.say_cells.Goals as goal
 
@@ -37,5 +38,5 @@ returns c =
     let (all, counted) = going_end c.loop-at.invariant.2 (pieces_past _ _ _ (omega arith)) in
     record {
       out_after = all;
-      line_value = (refl, counted);
+      spot_after = ap (spot_at c.args.line) counted;
     }

@@ -9,7 +9,7 @@ use Rattle.spelling.proofs.say_line.Goals as goal
 pub returns-then-end-eq0 : goal.returns-then-end-eq0
 returns-then-end-eq0 c =
     let (said, ended) = blank_said _ _ _ (blank_line c.used_part-end.ensures c.if-end-eq0.true) in
-    record { out_after = said; cell_value = ended }
+    record { out_after = said; spot_after = ended }
 
 pub slice_bounds-used-end : goal.slice_bounds-used-end
 slice_bounds-used-end c = sym (length-take-le _ _ c.used_part-end.ensures.within)
@@ -24,5 +24,5 @@ pub returns : goal.returns
 returns c =
     let cells = word_line c.used_part-end.ensures (pos_of_ne-zero c.if-end-eq0.false) c.find-first.ensures in record {
       out_after = line-said _ _ _ cells c.letter-letter.ensures c.say-marked.ensures c.say-named.ensures c.say_cells.ensures.out_after;
-      cell_value = line_end _ _ cells c.say_cells.ensures.line_value;
+      spot_after = line_end _ _ cells c.say_cells.ensures.spot_after;
     }

@@ -3,7 +3,7 @@
 use mathlib.Core.Path.{refl}
 use native.Mathlib.Omega.{arith}
 use borrow.Author.Rules.{rules}
-use Rattle.meaning.specs.Design.{spot_at}
+use Rattle.spelling.specs.Trace.{spot_of}
 use Rattle.spelling.proofs.Pieces.{pieces_past, pieces_turn}
 use Rattle.spelling.proofs.Lines.{text_start, lines_turn, lines_last, end_line}
 use Rattle.spelling.proofs.spell.Goals as goal
@@ -36,16 +36,16 @@ loop-at-preserved c =
     let I = c.loop-at.invariant in
     let F = c.find-end.ensures in
     let E = c.say_line-next.ensures in
-    let inside = end_line (spot_at c.loop-at.here.line c.loop-at.here.cell) c.loop-at.line _ _ E.cell_value (omega (arith, I.3)) in (
+    let inside = end_line (spot_of c.loop-at.here.spot) c.loop-at.line _ _ E.spot_after (omega (arith, I.3)) in (
       search rules,
       omega (arith, F.within),
       omega (arith, F.after, I.2),
       omega (arith, inside),
-      lines_turn I.4 (pieces_turn c.loop-at-test.true F) E.out_after E.cell_value,
+      lines_turn I.4 (pieces_turn c.loop-at-test.true F) E.out_after E.spot_after,
     )
 
-pub overflow_add-here : goal.overflow_add-here
-overflow_add-here c = let I = c.loop-at.invariant in omega (arith, I.1, I.2, I.3)
+pub overflow_add-last : goal.overflow_add-last
+overflow_add-last c = let I = c.loop-at.invariant in omega (arith, I.1, I.2, I.3)
 
 pub returns : goal.returns
 returns c = lines_last c.loop-at.invariant.4 (pieces_past _ _ _ (omega (arith, c.loop-at-test.false))) c.say-marked.ensures c.say.ensures
