@@ -3,7 +3,7 @@
 -- Assumes nothing.
 use mathlib.Core.Path.{◌≡◌, sym, ap, ap₂, subst, ◌∙◌}
 use mathlib.Core.List.{List, [], ◌∷◌, ◌++◌, flatten, append_assoc, append-nil}
-use Rattle.std.specs.Prelude.{Some}
+use Rattle.std.specs.Prelude.{Some, Result, Ok}
 use Prim.Native.Nat.{ℕ, ◌+◌, ◌*◌}
 use native.Mathlib.Omega.{arith}
 use lib.ListN.{length, length-append}
@@ -32,16 +32,16 @@ rows_more {room} ls {l} B m at new =
     new ∙ ap₂ (λ x y. paste x y l (length l)) m (at ∙ sym B.place) ∙ padded_paste room (flatten ls) l B.fits ∙ ap (padded room) (sym (flatten_more ls l))
 
 -- the record that a step hands out
-hands_as : {s : List ℕ} {r : Stepped} {v : Numbers} {m cs : List ℕ} (w : Noting s r v m cs) {x : Step} {y : Record} → r.step ≡ x → record_with (entries_in s r) x ≡ Some y
+hands_as : {s : List ℕ} {r : Stepped} {v : Numbers} {m cs : List ℕ} (w : Noting s r v m cs) {x : Result Step ℕ} {y : Record} → r.step ≡ x → record_with (entries_in s r) x ≡ Some y
     → w.next ≡ y
 hands_as {s} {r} w e h = let z : Some w.next ≡ Some _ = sym w.hands ∙ ap (record_with (entries_in s r)) e ∙ h in cc
 
 -- one more row behind those so far
-row_behind : {s : List ℕ} {r : Stepped} {v : Numbers} {m cs l : List ℕ} (w : Noting s r v m cs) → r.step ≡ step.Row → l ≡ entries_in s r
+row_behind : {s : List ℕ} {r : Stepped} {v : Numbers} {m cs l : List ℕ} (w : Noting s r v m cs) → r.step ≡ Ok step.Row → l ≡ entries_in s r
     → Behind (length w.values.matrix) widest matrix_room (matrix_bytes w.values) l
 row_behind {l = l} w e f = subst (RoomFor w.values) (hands_as w e (ap (λ t. Some (row t)) (sym f))) w.room
 
-candidate_behind : {s : List ℕ} {r : Stepped} {v : Numbers} {m cs l : List ℕ} (w : Noting s r v m cs) → r.step ≡ step.Candidate → l ≡ entries_in s r
+candidate_behind : {s : List ℕ} {r : Stepped} {v : Numbers} {m cs l : List ℕ} (w : Noting s r v m cs) → r.step ≡ Ok step.Candidate → l ≡ entries_in s r
     → Behind (length w.values.candidates) most_candidates candidate_room (candidate_bytes w.values) l
 candidate_behind {l = l} w e f = subst (RoomFor w.values) (hands_as w e (ap (λ t. Some (candidate t)) (sym f))) w.room
 
@@ -49,7 +49,7 @@ candidate_behind {l = l} w e f = subst (RoomFor w.values) (hands_as w e (ap (λ 
 length_more : (ls : List (List ℕ)) (l : List ℕ) {k : ℕ} → k ≡ length ls → k + 1 ≡ length (ls ++ (l ∷ []))
 length_more ls l e = omega (arith, length-append ls (l ∷ []))
 
-pub noted_row : {s : List ℕ} {r : Stepped} {v : Numbers} {m cs new l : List ℕ} → r.step ≡ step.Row → l ≡ entries_in s r
+pub noted_row : {s : List ℕ} {r : Stepped} {v : Numbers} {m cs new l : List ℕ} → r.step ≡ Ok step.Row → l ≡ entries_in s r
     → new ≡ paste m (v.rows * length l) l (length l)
     → Noted s r v m cs (record { case = v.case; rows = v.rows + 1 }) new cs
 noted_row {cs = cs} {new = new} {l = l} e f g w =
@@ -66,7 +66,7 @@ noted_row {cs = cs} {new = new} {l = l} e f g w =
       candidates = H.candidates;
     })
 
-pub noted_candidate : {s : List ℕ} {r : Stepped} {v : Numbers} {m cs new l : List ℕ} → r.step ≡ step.Candidate → l ≡ entries_in s r
+pub noted_candidate : {s : List ℕ} {r : Stepped} {v : Numbers} {m cs new l : List ℕ} → r.step ≡ Ok step.Candidate → l ≡ entries_in s r
     → new ≡ paste cs (v.case.count * length l) l (length l)
     → Noted s r v m cs (record { case = record { p = v.case.p; n = v.case.n; allowance = v.case.allowance; count = v.case.count + 1 }; rows = v.rows }) m new
 noted_candidate {m = m} {new = new} {l = l} e f g w =

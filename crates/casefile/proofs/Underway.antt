@@ -1,6 +1,6 @@
 -- Reading a whole file: what is held of the records handed out so far, and how it ends.
 --   Underway s m cs v at   the steps up to the offset `at` handed out records, and v, m and cs hold what they come to
---   step_less              a step that hands out a record, neither Over nor Refused, leaves fewer bytes
+--   step_less              a step that hands out a record, neither Over nor refused, leaves fewer bytes
 --   underway_start         at the front nothing is held
 --   underway_noting        a record that is handed out can be noted
 --   underway_turn          behind it the records handed out are one more
@@ -17,6 +17,7 @@ use Rattle.meaning.specs.Case.{Record, record_bytes, default_allowance}
 use Rattle.meaning.proofs.Flat.{record_long}
 use Rattle.meaning.proofs.Written.{zeros_padded}
 use Rattle.meaning.specs.Bounds.{matrix_room, candidate_room}
+use Rattle.reader.specs.declared.Step.{Step}
 use Rattle.reader.specs.declared.Step.TheVariants as step
 use Rattle.reader.specs.declared.Stepped.{Stepped}
 use Rattle.casefile.specs.declared.Numbers.{Numbers}
@@ -56,20 +57,20 @@ record GivesOut (s : List ℕ) (at : ℕ) (r : Stepped) : Type 0 where
   is_next : NextRecord s at next
   behind : r.next.at ≡ at + length (record_bytes next)
 
-step_gives : {s : List ℕ} {at : ℕ} {r : Stepped} → StepIs s at r → (r.step ≡ step.Over → ⊥) → ((k : ℕ) → r.step ≡ step.Refused k → ⊥) → GivesOut s at r
-step_gives (hands x N e f k) o g = record { next = x; hands_out = e; is_next = N; behind = k }
-step_gives (over E e f k) o g = absurd (o e)
-step_gives {r = r} (refuses k N E P e f h) o g = absurd (g k (step_refused r.step k e))
+step_gives : {s : List ℕ} {at : ℕ} {r : Stepped} {y : Step} → StepIs s at r → r.step ≡ Ok y → (y ≡ step.Over → ⊥) → GivesOut s at r
+step_gives (hands x N e f k) h o = record { next = x; hands_out = e; is_next = N; behind = k }
+step_gives {y = y} (over E e f k) h o = let same : Ok y ≡ Ok step.Over = sym h ∙ e in absurd (o cc)
+step_gives {r = r} {y = y} (refuses k N E P e f g) h o = let same : Ok y ≡ Err k = sym h ∙ step_refused r.step k e in cc
 
-pub step_less : {s : List ℕ} {at : ℕ} {r : Stepped} → StepIs s at r → (r.step ≡ step.Over → ⊥) → ((k : ℕ) → r.step ≡ step.Refused k → ⊥)
+pub step_less : {s : List ℕ} {at : ℕ} {r : Stepped} {y : Step} → StepIs s at r → r.step ≡ Ok y → (y ≡ step.Over → ⊥)
     → length s - r.next.at < length s - at
-step_less S o g = let x = step_gives S o g in omega (arith, x.behind, record_long x.next, next_within x.is_next)
+step_less S h o = let x = step_gives S h o in omega (arith, x.behind, record_long x.next, next_within x.is_next)
 
-module _ {s m cs : List ℕ} {v : Numbers} {at : ℕ} {r : Stepped} (P : Underway s m cs v at) (S : StepIs s at r) (o : r.step ≡ step.Over → ⊥)
-    (g : (k : ℕ) → r.step ≡ step.Refused k → ⊥) where
+module _ {s m cs : List ℕ} {v : Numbers} {at : ℕ} {r : Stepped} {y : Step} (P : Underway s m cs v at) (S : StepIs s at r) (h : r.step ≡ Ok y)
+    (o : y ≡ step.Over → ⊥) where
   pub underway_noting : Noting s r v m cs
   underway_noting =
-      let x = step_gives S o g in
+      let x = step_gives S h o in
       record {
         values = gathered P.records;
         next = x.next;
@@ -83,18 +84,18 @@ module _ {s m cs : List ℕ} {v : Numbers} {at : ℕ} {r : Stepped} (P : Underwa
   pub underway_turn : {m' cs' : List ℕ} {v' : Numbers} {e : ℕ} → e ≡ r.next.at → Noted s r v m cs v' m' cs' → length m' ≡ length m
       → length cs' ≡ length cs → Underway s m' cs' v' e
   unfolding underway_noting
-  underway_turn {m'} {cs'} {v'} h N k l =
-      let x = step_gives S o g in
+  underway_turn {m'} {cs'} {v'} q N k l =
+      let x = step_gives S h o in
       record {
         records = P.records ++ (x.next ∷ []);
-        handed = subst (Handed s _) (sym h) (more r P.handed S x.hands_out);
+        handed = subst (Handed s _) (sym q) (more r P.handed S x.hands_out);
         holds = subst (λ c. Stored c v' m' cs') (sym (gathered_more P.records x.next)) (N underway_noting);
         matrix_size = k ∙ P.matrix_size;
         candidate_size = l ∙ P.candidate_size;
       }
 
 -- how reading ends
-pub underway_over : {s m cs : List ℕ} {v : Numbers} {at : ℕ} {r : Stepped} → Underway s m cs v at → StepIs s at r → r.step ≡ step.Over
+pub underway_over : {s m cs : List ℕ} {v : Numbers} {at : ℕ} {r : Stepped} → Underway s m cs v at → StepIs s at r → r.step ≡ Ok step.Over
     → ReadIs s (record { answer = Ok v.case; matrix = m; candidates = cs })
 underway_over {s} {r = r} P (hands x N f g k) e = absurd (none-some _ (ap (record_with (entries_in s r)) (sym e) ∙ f))
 underway_over {s} {m} {cs} {v} P (over E f g k) e =
@@ -106,7 +107,7 @@ underway_over {s} {m} {cs} {v} P (over E f g k) e =
     four e f g h = λ i. Some (e i, f i, g i, h i)
 underway_over P (refuses k N E Q f g h) e = absurd (none-some _ (ap refusal_of (sym e) ∙ f))
 
-pub underway_refused : {s m cs : List ℕ} {v : Numbers} {at k : ℕ} {r : Stepped} → Underway s m cs v at → StepIs s at r → r.step ≡ step.Refused k
+pub underway_refused : {s m cs : List ℕ} {v : Numbers} {at k : ℕ} {r : Stepped} → Underway s m cs v at → StepIs s at r → r.step ≡ Err k
     → ReadIs s (record { answer = Err k; matrix = replicate matrix_room 0; candidates = replicate candidate_room 0 })
 underway_refused {s} {r = r} P (hands x N f g k) e = absurd (none-some _ (ap (record_with (entries_in s r)) (sym e) ∙ f))
 underway_refused P (over E f g k) e = absurd (none-some _ (ap refusal_of (sym f ∙ e)))

@@ -31,6 +31,6 @@ pub data ReadIs (s : List ℕ) (r : Contents) : Type 0 where
       → r.candidates ≡ replicate candidate_room 0 → ReadIs s r
 
 pub data HandedOut (s : List ℕ) (r : Contents) : Type 0 where
-  whole : (c : Case) → Ends s (records c) Over → values_of r.answer ≡ Some (c.p, c.n, allowance_of c, length c.candidates)
+  whole : (c : Case) → Ends s (records c) (Ok Over) → values_of r.answer ≡ Some (c.p, c.n, allowance_of c, length c.candidates)
       → r.matrix ≡ padded matrix_room (matrix_bytes c) → r.candidates ≡ padded candidate_room (candidate_bytes c) → HandedOut s r
   stopped : (k : ℕ) → Stops s k → read_refusal r.answer ≡ Some (8, k) → HandedOut s r

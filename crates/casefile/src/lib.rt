@@ -44,11 +44,11 @@ fn note(s: &[u8], r: Stepped, known: Numbers, m: &mut [u8], cs: &mut [u8]) -> Nu
     ensures { Noted s.now r known m.old cs.old result m.new cs.new }
 {
     match r.step {
-        Step::Field { p, n } => Numbers {
+        Ok(Step::Field { p, n }) => Numbers {
             case: Case { p, n, ..known.case },
             ..known
         },
-        Step::Allow { high, low } => {
+        Ok(Step::Allow { high, low }) => {
             let allowance = RADIX * u32::from(high) + u32::from(low);
             Numbers {
                 case: Case {
@@ -58,7 +58,7 @@ fn note(s: &[u8], r: Stepped, known: Numbers, m: &mut [u8], cs: &mut [u8]) -> Nu
                 ..known
             }
         }
-        Step::Row => {
+        Ok(Step::Row) => {
             let row = reader::entries(s, r);
             let at = known.rows * row.len();
             m[at..at + row.len()].copy_from_slice(row);
@@ -67,7 +67,7 @@ fn note(s: &[u8], r: Stepped, known: Numbers, m: &mut [u8], cs: &mut [u8]) -> Nu
                 ..known
             }
         }
-        Step::Candidate => {
+        Ok(Step::Candidate) => {
             let row = reader::entries(s, r);
             let at = known.case.count * row.len();
             cs[at..at + row.len()].copy_from_slice(row);
@@ -101,22 +101,23 @@ pub fn read(s: &[u8]) -> Contents
     let mut reader = Reader::new(s);
     loop {
         let stepped = reader.next();
-        match stepped.step {
-            Step::Over => {
-                return Contents {
-                    answer: Ok(known.case),
-                    matrix,
-                    candidates,
-                };
-            }
-            Step::Refused(place) => {
+        let step = match stepped.step {
+            Ok(step) => step,
+            Err(place) => {
                 return Contents {
                     answer: Err(place),
                     matrix: [0u8; MATRIX_ROOM],
                     candidates: [0u8; CANDIDATE_ROOM],
                 };
             }
-            _ => known = note(s, stepped, known, &mut matrix, &mut candidates),
+        };
+        if let Step::Over = step {
+            return Contents {
+                answer: Ok(known.case),
+                matrix,
+                candidates,
+            };
         }
+        known = note(s, stepped, known, &mut matrix, &mut candidates);
     }
 }

@@ -7,8 +7,8 @@ use lib.ListN.{length}
 use Rattle.casefile.proofs.Underway.{Underway}
 use Rattle.casefile.proofs.read.Given as goal
 
-abbrev pub invariant-loop-matrix : goal.invariant-loop-matrix
-invariant-loop-matrix l = (l.reader.src.now ≡ l.s) × Underway l.s l.matrix l.candidates l.known l.reader.at
+abbrev pub invariant-loop-step : goal.invariant-loop-step
+invariant-loop-step l = (l.reader.src.now ≡ l.s) × Underway l.s l.matrix l.candidates l.known l.reader.at
 
-abbrev pub decreases-loop-matrix : goal.decreases-loop-matrix
-decreases-loop-matrix l = length l.s - l.reader.at
+abbrev pub decreases-loop-step : goal.decreases-loop-step
+decreases-loop-step l = length l.s - l.reader.at
