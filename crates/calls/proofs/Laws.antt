@@ -1,13 +1,14 @@
 -- What a call answers and writes, from what was found.
+--   refused_exit    a refused call returns its refusal, and has written nothing
 --   order_written   a buffer with the order at its front
---   outcome_of g s w   what the stand returns for the rows taken g, the standing s and the witness w
+--   taken_outcome g s w   what the stand returns for the rows taken g, the standing s and the witness w
 --   gathered_common   the least polynomial that sends the taken rows to zero is the lcm of their orders
 --   gathered-stand    what was gathered, and the test of its polynomial, are the stand
 --   stand-written   the stand's two buffers, with the coefficients and the image of the witness
 --   stand_as        the same with an outcome that is equal
 --   chain-written   the chain's two buffers, with the product and the stage record
 -- Assumes nothing.
-use mathlib.Core.Path.{◌≡◌, ap, ◌∙◌, subst}
+use mathlib.Core.Path.{◌≡◌, sym, ap, ◌∙◌, subst}
 use mathlib.Core.List.{List}
 use Prim.Native.Nat.{ℕ, suc, ◌+◌, ◌≤◌}
 use native.Mathlib.Omega.{arith}
@@ -21,7 +22,14 @@ use Rattle.meaning.specs.Bounds.{widest}
 use Rattle.meaning.specs.Polynomial.{IsOrder, IsLcm}
 use Rattle.meaning.specs.Stand.{Standing, Tested, Outcome, IsStand, witness_row, standing_of}
 use Rattle.meaning.specs.Chain.{stage_bytes, stage_room}
-use Rattle.meaning.specs.Calls.{OrderResult, StandResult, ChainResult}
+use Rattle.std.specs.Prelude.{Option, Some, Result}
+use Rattle.std.specs.Result.{IsErrAnd}
+use Rattle.std.proofs.lemmas.Result.{err_from_is_err_and}
+use Rattle.reasons.specs.declared.Reason.{Reason}
+use Rattle.reasons.specs.Reasons.{as_refusal, answer_of}
+use Rattle.meaning.specs.Refusal.{Refusal}
+use Rattle.meaning.proofs.Called.{refused_by}
+use Rattle.meaning.specs.Calls.{Called, OrderResult, StandResult, ChainResult}
 use Rattle.meaning.proofs.Bytes.{times_linear}
 use Rattle.meaning.proofs.Unique.{least-lcm}
 use Rattle.meaning.proofs.Degrees.{chain_record}
@@ -33,6 +41,10 @@ use Rattle.taken.specs.Gathered.{Gathered}
 use Rattle.stages.specs.declared.Links.{Links}
 use Rattle.stages.specs.Looking.{IsLinked}
 
+pub refused_exit : {B C : Type 0} {R : B → C → Type 0} {t : Option Refusal} (r : Reason) (x : Result B Reason) (old : C) → IsErrAnd x (λ e. e ≡ r) → Some (as_refusal r) ≡ t
+    → Called t R old (answer_of x) old
+refused_exit r x old h e = let p = err_from_is_err_and x h in rw (p.1, p.2) (refused_by (sym e))
+
 -- the first n + 1 coefficients
 good_bytes : {p : ℕ} {f : Polynomial} (n : ℕ) → Good p f → n ≤ widest → take (n + 1) f.c ≡ bytes (suc n) (coef (po p f))
 good_bytes {p} {f} n G h = coefficient_bytes p n f.c G.small (omega (arith, G.places))
@@ -42,8 +54,8 @@ pub order_written : {p n : ℕ} {m v old new : List ℕ} {f : Polynomial} → Is
 order_written {p} {n} {old = old} {f = f} A G h e = record { poly = po p f; order = A; buffer = e ∙ ap (λ l. write l old) (good_bytes n G h) }
 
 -- what the stand returns for the rows taken, with a standing and a witness
-abbrev pub outcome_of : Taken → Standing → ℕ → Outcome
-outcome_of g s w = record { standing = s; degree = g.poly.deg; taken = g.taken; spent = g.spent; witness = w }
+abbrev pub taken_outcome : Taken → Standing → ℕ → Outcome
+taken_outcome g s w = record { standing = s; degree = g.poly.deg; taken = g.taken; spent = g.spent; witness = w }
 
 -- the lcm of the orders of the taken rows, and the stand
 module _ {p n a : ℕ} {m cs : List ℕ} {g : Taken} (G : Gathered p n m cs a g) where
@@ -55,7 +67,7 @@ module _ {p n a : ℕ} {m cs : List ℕ} {g : Taken} (G : Gathered p n m cs a g)
       let T = orders_take (times p n m) g.taken (rows p n cs) G.orders G.each in
       least-lcm (least_same (kills_multiples L vs os T) (multiples_kill L vs os T) G.least)
 
-  gathered-stand : (s : Standing) (w : ℕ) → Tested (times p n m) n (po p g.poly) s w → IsStand p n m cs a (outcome_of g s w) (po p g.poly)
+  gathered-stand : (s : Standing) (w : ℕ) → Tested (times p n m) n (po p g.poly) s w → IsStand p n m cs a (taken_outcome g s w) (po p g.poly)
   gathered-stand s w T = record {
     orders = G.orders;
     each = G.each;
@@ -68,7 +80,7 @@ module _ {p n a : ℕ} {m cs : List ℕ} {g : Taken} (G : Gathered p n m cs a g)
 pub stand-written : {p n a k : ℕ} {m cs img : List ℕ} {g : Taken} {old new : List ℕ × List ℕ} → Gathered p n m cs a g
     → Tested (times p n m) n (po p g.poly) (standing_of k) k → n ≤ widest → new.0 ≡ write (take (n + 1) g.poly.c) old.0
     → img ≡ bytes n (witness_row (times p n m) (po p g.poly) (standing_of k) k) → new.1 ≡ write img old.1
-    → StandResult p n m cs a old (outcome_of g (standing_of k) k) new
+    → StandResult p n m cs a old (taken_outcome g (standing_of k) k) new
 stand-written {p} {n} {k = k} {g = g} {old = old} G T h e b x = record {
   poly = po p g.poly;
   stand = gathered-stand G (standing_of k) k T;

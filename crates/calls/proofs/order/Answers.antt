@@ -7,26 +7,23 @@ use native.Mathlib.Omega.{arith}
 use lib.ListN.{length, replicate, length-take}
 use Rattle.meaning.specs.Refusal.{order_refusal}
 use Rattle.meaning.proofs.Refusal.{order_sound}
-use Rattle.meaning.proofs.Called.{refused_by, given_by}
+use Rattle.meaning.proofs.Called.{given_by}
 use Rattle.meaning.specs.Bounds.{widest, coefficients}
 use Rattle.spin.proofs.Laws.{before_empty, spinned_order}
 use Rattle.calls.proofs.Laws.{order_written}
 use Rattle.calls.proofs.order.Goals as goal
-use Rattle.calls.proofs.order.Goals.{After-spin-f, In_default}
+use Rattle.calls.proofs.order.Goals.{After-spin-f, In_ok-of_order}
 
-taken : (c : In_default) → let x = c.args in order_refusal x.p x.n x.m.now x.v.now x.out.now ≡ None
-taken c = sym c.in_default.ensures
-
-pub returns-in-Refused : goal.returns-in-Refused
-returns-in-Refused c = refused_by (sym c.in-Refused.ensures)
+taken : (c : In_ok-of_order) → let x = c.args in order_refusal x.p x.n x.m.now x.v.now x.out.now ≡ None
+taken c = sym c.in_ok-of_order.ensures
 
 pub overflow_cast-p : goal.overflow_cast-p
-overflow_cast-p c = omega (arith, order_sound _ _ _ _ _ (sym c.in_default.ensures))
+overflow_cast-p c = omega (arith, order_sound _ _ _ _ _ (sym c.in_ok-of_order.ensures))
 
 pub spin-f-requires : goal.spin-f-requires
 spin-f-requires c =
     let x = c.args in
-    let S = order_sound _ _ _ _ _ (taken (goal.at.spin-f-requires c).In_default) in
+    let S = order_sound _ _ _ _ _ (taken (goal.at.spin-f-requires c).In_ok-of_order) in
     let most : x.n ≤ widest = S.0.size in
     record {
       prime = S.0.prime;
@@ -40,15 +37,12 @@ spin-f-requires c =
 room : (c : After-spin-f) → let x = c.args in
     (x.n + 1 ≤ coefficients) × (x.n + 1 ≤ length c.spin-f.result.c) × (x.n + 1 ≤ length x.out.now)
 room c =
-    let S = order_sound _ _ _ _ _ (sym c.in_default.ensures) in
+    let S = order_sound _ _ _ _ _ (sym c.in_ok-of_order.ensures) in
     let most = S.0.size in
     (omega arith, omega (arith, c.spin-f.ensures.good.places), S.3)
 
-pub overflow_add-count : goal.overflow_add-count
-overflow_add-count c = omega (arith, room (goal.at.overflow_add-count c).After-spin-f)
-
-pub slice_bounds-coefficients-end : goal.slice_bounds-coefficients-end
-slice_bounds-coefficients-end c = omega (arith, room (goal.at.slice_bounds-coefficients-end c).After-spin-f)
+pub overflow_add-n : goal.overflow_add-n
+overflow_add-n c = omega (arith, room (goal.at.overflow_add-n c).After-spin-f)
 
 pub slice_bounds-put-end : goal.slice_bounds-put-end
 slice_bounds-put-end c = simp length-take (omega (arith, room (goal.at.slice_bounds-put-end c).After-spin-f))
@@ -59,4 +53,4 @@ put-requires c = simp length-take (omega (arith, room (goal.at.put-requires c).A
 pub returns : goal.returns
 returns c =
     let S = c.spin-f.ensures in
-    given_by (taken (goal.at.returns c).In_default) (order_written (spinned_order S) S.good (order_sound _ _ _ _ _ (taken (goal.at.returns c).In_default)).0.size c.put.ensures)
+    given_by (taken (goal.at.returns c).In_ok-of_order) (order_written (spinned_order S) S.good (order_sound _ _ _ _ _ (taken (goal.at.returns c).In_ok-of_order)).0.size c.put.ensures)

@@ -14,28 +14,25 @@ use Rattle.meaning.specs.Stand.{standing_of}
 use Rattle.meaning.specs.Calls.{StandResult}
 use Rattle.meaning.proofs.Bytes.{rows_below}
 use Rattle.meaning.proofs.Refusal.{stand_sound}
-use Rattle.meaning.proofs.Called.{refused_by, given_by}
+use Rattle.meaning.proofs.Called.{given_by}
 use Rattle.meaning.proofs.Standing.{tested_within, standing_proved, standing_short}
 use Rattle.poly.specs.Polynomial.{po}
 use Rattle.witness.specs.Killing.{Killing}
-use Rattle.calls.proofs.Laws.{outcome_of, stand-written, stand_as}
+use Rattle.calls.proofs.Laws.{taken_outcome, stand-written, stand_as}
 use Rattle.algebra.proofs.Orders.{below_take}
 use Rattle.calls.proofs.stand.Goals as goal
-use Rattle.calls.proofs.stand.Goals.{After-put-2, After-take_rows-gathered, After-witness_row-row, In_default}
+use Rattle.calls.proofs.stand.Goals.{After-put-2, After-take_rows-gathered, After-witness_row-row, In_ok-of_stand}
 
-taken : (c : In_default) → let x = c.args in
+taken : (c : In_ok-of_stand) → let x = c.args in
     stand_refusal x.p x.n x.m.now x.cs.now x.poly.now x.image.now ≡ None
-taken c = sym c.in_default.ensures
-
-pub returns-in-Refused : goal.returns-in-Refused
-returns-in-Refused c = refused_by (sym c.in-Refused.ensures)
+taken c = sym c.in_ok-of_stand.ensures
 
 pub overflow_cast-field : goal.overflow_cast-field
-overflow_cast-field c = omega (arith, stand_sound _ _ _ _ _ _ (sym c.in_default.ensures))
+overflow_cast-field c = omega (arith, stand_sound _ _ _ _ _ _ (sym c.in_ok-of_stand.ensures))
 
 pub take_rows-gathered-requires : goal.take_rows-gathered-requires
 take_rows-gathered-requires c =
-    let S = stand_sound _ _ _ _ _ _ (taken (goal.at.take_rows-gathered-requires c).In_default) in
+    let S = stand_sound _ _ _ _ _ _ (taken (goal.at.take_rows-gathered-requires c).In_ok-of_stand) in
     let most = S.0.size in
     record {
       prime = S.0.prime;
@@ -60,7 +57,7 @@ killing c =
 
 pub witness-witness-requires : goal.witness-witness-requires
 witness-witness-requires c =
-    let S = stand_sound _ _ _ _ _ _ (taken (goal.at.witness-witness-requires c).In_default) in
+    let S = stand_sound _ _ _ _ _ _ (taken (goal.at.witness-witness-requires c).In_ok-of_stand) in
     record {
       prime = S.0.prime;
       le_n = (S.0.some_size, S.0.size);
@@ -71,7 +68,7 @@ witness-witness-requires c =
 
 pub witness_row-row-requires : goal.witness_row-row-requires
 witness_row-row-requires c =
-    let S = stand_sound _ _ _ _ _ _ (taken (goal.at.witness_row-row-requires c).In_default) in
+    let S = stand_sound _ _ _ _ _ _ (taken (goal.at.witness_row-row-requires c).In_ok-of_stand) in
     let x = c.args in
     let h : c.witness-witness.result ≤ x.n =
     tested_within (times x.p x.n x.m.now) x.n (po x.p c.take_rows-gathered.result.poly) c.witness-witness.result c.witness-witness.ensures in
@@ -88,25 +85,19 @@ room : (c : After-witness_row-row) → let x = c.args in
     (x.n + 1 ≤ coefficients) × (x.n + 1 ≤ length c.take_rows-gathered.result.poly.c) × (x.n + 1 ≤ length x.poly.now)
     × (x.n ≤ length c.witness_row-row.result) × (x.n ≤ length x.image.now)
 room c =
-    let S = stand_sound _ _ _ _ _ _ (sym c.in_default.ensures) in
+    let S = stand_sound _ _ _ _ _ _ (sym c.in_ok-of_stand.ensures) in
     let most = S.0.size in
     let long : length c.witness_row-row.result ≡ widest = search rules in
     (omega arith, omega (arith, c.take_rows-gathered.ensures.gathered.good.places), S.2, omega arith, S.3)
 
-pub overflow_add-places : goal.overflow_add-places
-overflow_add-places c = omega (arith, room (goal.at.overflow_add-places c).After-witness_row-row)
-
-pub slice_bounds-coefficients-end : goal.slice_bounds-coefficients-end
-slice_bounds-coefficients-end c = omega (arith, room (goal.at.slice_bounds-coefficients-end c).After-witness_row-row)
+pub overflow_add-n : goal.overflow_add-n
+overflow_add-n c = omega (arith, room (goal.at.overflow_add-n c).After-witness_row-row)
 
 pub slice_bounds-put-end : goal.slice_bounds-put-end
 slice_bounds-put-end c = sym (length-take-le _ _ (omega (arith, room (goal.at.slice_bounds-put-end c).After-witness_row-row)))
 
 pub put-requires : goal.put-requires
 put-requires c = simp length-take (omega (arith, room (goal.at.put-requires c).After-witness_row-row))
-
-pub slice_bounds-row-end : goal.slice_bounds-row-end
-slice_bounds-row-end c = omega (arith, room (goal.at.slice_bounds-row-end c).After-witness_row-row)
 
 pub slice_bounds-put-end-2 : goal.slice_bounds-put-end-2
 slice_bounds-put-end-2 c = sym (length-take-le _ _ (omega (arith, room (goal.at.slice_bounds-put-end-2 c).After-witness_row-row)))
@@ -118,13 +109,13 @@ put-requires-2 c = simp length-take (omega (arith, room (goal.at.put-requires-2 
 passed : (c : After-put-2) →
     let x = c.args in
     stand_refusal x.p x.n x.m.now x.cs.now x.poly.now x.image.now ≡ None
-passed c = sym c.in_default.ensures
+passed c = sym c.in_ok-of_stand.ensures
 
 -- what is given, with the standing and the witness as they were found
 written : (c : After-put-2) →
     let x = c.args in
     StandResult x.p x.n x.m.now x.cs.now x.allowance (x.poly.now, x.image.now)
-    (outcome_of c.take_rows-gathered.result (standing_of c.witness-witness.result) c.witness-witness.result) (c.put.new.out, c.put-2.new.out)
+    (taken_outcome c.take_rows-gathered.result (standing_of c.witness-witness.result) c.witness-witness.result) (c.put.new.out, c.put-2.new.out)
 written c =
     stand-written c.take_rows-gathered.ensures.gathered c.witness-witness.ensures (stand_sound _ _ _ _ _ _ (passed c)).0.size c.put.ensures
     c.witness_row-row.ensures c.put-2.ensures
@@ -133,7 +124,7 @@ pub returns-then-witness-eq0 : goal.returns-then-witness-eq0
 returns-then-witness-eq0 c =
     let none_found : c.witness-witness.result ≡ 0 = omega arith in
     let g = c.take_rows-gathered.result in
-    given_by (passed (goal.at.returns-then-witness-eq0 c).After-put-2) (stand_as (ap₂ (outcome_of g) (standing_proved _ none_found) none_found) (written (goal.at.returns-then-witness-eq0 c).After-put-2))
+    given_by (passed (goal.at.returns-then-witness-eq0 c).After-put-2) (stand_as (ap₂ (taken_outcome g) (standing_proved _ none_found) none_found) (written (goal.at.returns-then-witness-eq0 c).After-put-2))
 
 pub returns : goal.returns
 returns c =
