@@ -5,24 +5,26 @@
 --   gathered_common   the least polynomial that sends the taken rows to zero is the lcm of their orders
 --   gathered-stand    what was gathered, and the test of its polynomial, are the stand
 --   stand-written   the stand's two buffers, with the coefficients and the image of the witness
---   stand_as        the same with an outcome that is equal
+--   witness_within  the witness is one of the n unit rows
 --   chain-written   the chain's two buffers, with the product and the stage record
 -- Assumes nothing.
-use mathlib.Core.Path.{◌≡◌, sym, ap, ◌∙◌, subst}
+use mathlib.Core.Path.{◌≡◌, sym, ap, ◌∙◌}
 use mathlib.Core.List.{List}
 use Prim.Native.Nat.{ℕ, suc, ◌+◌, ◌≤◌}
 use native.Mathlib.Omega.{arith}
 use lib.ListN.{take}
-use Rattle.algebra.specs.Poly.{coef}
+use Rattle.algebra.specs.Row.{S}
+use Rattle.algebra.specs.Poly.{Poly, coef}
 use Rattle.algebra.specs.Orders.{polys}
 use Rattle.algebra.proofs.Poly.{least_same}
 use Rattle.algebra.proofs.Orders.{multiples_kill, kills_multiples, orders_take}
 use Rattle.meaning.specs.Bytes.{row, rows, times, bytes, write}
 use Rattle.meaning.specs.Bounds.{widest}
 use Rattle.meaning.specs.Polynomial.{IsOrder, IsLcm}
-use Rattle.meaning.specs.Stand.{Standing, Tested, Outcome, IsStand, witness_row, standing_of}
+use Rattle.meaning.specs.Stand.{Standing, Tested, Outcome, IsStand, FirstUnsent, witness_row}
 use Rattle.meaning.specs.Chain.{stage_bytes, stage_room}
-use Rattle.std.specs.Prelude.{Option, Some, Result}
+use Rattle.std.specs.Prelude.{Option, None, Some, Result}
+use Rattle.std.specs.Option.{MatchOption, IfSome}
 use Rattle.std.specs.Result.{IsErrAnd}
 use Rattle.std.proofs.lemmas.Result.{err_from_is_err_and}
 use Rattle.reasons.specs.declared.Reason.{Reason}
@@ -77,20 +79,22 @@ module _ {p n a : ℕ} {m cs : List ℕ} {g : Taken} (G : Gathered p n m cs a g)
     tested = T;
   }
 
-pub stand-written : {p n a k : ℕ} {m cs img : List ℕ} {g : Taken} {old new : List ℕ × List ℕ} → Gathered p n m cs a g
-    → Tested (times p n m) n (po p g.poly) (standing_of k) k → n ≤ widest → new.0 ≡ write (take (n + 1) g.poly.c) old.0
-    → img ≡ bytes n (witness_row (times p n m) (po p g.poly) (standing_of k) k) → new.1 ≡ write img old.1
-    → StandResult p n m cs a old (taken_outcome g (standing_of k) k) new
-stand-written {p} {n} {k = k} {g = g} {old = old} G T h e b x = record {
+pub stand-written : {p n a : ℕ} {m cs img : List ℕ} {g : Taken} {old new : List ℕ × List ℕ} (s : Standing) (w : ℕ) → Gathered p n m cs a g
+    → Tested (times p n m) n (po p g.poly) s w → n ≤ widest → new.0 ≡ write (take (n + 1) g.poly.c) old.0
+    → img ≡ bytes n (witness_row (times p n m) (po p g.poly) s w) → new.1 ≡ write img old.1
+    → StandResult p n m cs a old (taken_outcome g s w) new
+stand-written {p} {n} {g = g} {old = old} s w G T h e b x = record {
   poly = po p g.poly;
-  stand = gathered-stand G (standing_of k) k T;
+  stand = gathered-stand G s w T;
   polynomial = e ∙ ap (λ l. write l old.0) (good_bytes n G.good h);
   witness = x ∙ ap (λ l. write l old.1) b;
 }
 
-pub stand_as : {p n a : ℕ} {m cs : List ℕ} {r o : Outcome} {old new : List ℕ × List ℕ} → r ≡ o → StandResult p n m cs a old r new
-    → StandResult p n m cs a old o new
-stand_as {p} {n} {a} {m} {cs} {old = old} {new} e = subst (λ o. StandResult p n m cs a old o new) e
+-- a witness that was found is one of the n unit rows
+pub witness_within : {p : ℕ} (X : S p → S p) (n : ℕ) (f : Poly p) (P : Type 0) (w : Option ℕ) → MatchOption w P (FirstUnsent X n f)
+    → IfSome w (λ i. (1 ≤ i) × (i ≤ n))
+witness_within X n f P None T = tt
+witness_within X n f P (Some i) T = (T.from, T.to)
 
 pub chain-written : {p n : ℕ} {m cs : List ℕ} {c : Links} {old new : List ℕ × List ℕ} → IsLinked p n m cs c → n ≤ widest
     → new.0 ≡ write (take (n + 1) c.product.c) old.0 → new.1 ≡ write (take (stage_room n) c.«record») old.1

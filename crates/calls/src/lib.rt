@@ -94,10 +94,10 @@ pub fn stand(
         taken: gathered.taken,
         spent: gathered.spent,
     };
-    if witness == 0 {
-        return Ok(Stood::Proved(counts));
+    match witness {
+        None => Ok(Stood::Proved(counts)),
+        Some(i) => Ok(Stood::Short(counts, i)),
     }
-    Ok(Stood::Short(counts, witness))
 }
 
 // The chain of relative orders over the candidates in order, then the unit rows in order. The n + 1 coefficients of the stages' product go to the

@@ -1,24 +1,21 @@
 -- `calls::stand` meets its contract: where the refusal is none, the inputs are sound; the rows taken and their lcm come from `taken`, its test from
 -- `witness`, and the polynomial and the witness's image are put to the front of their buffers. Assumes nothing.
-use mathlib.Core.Path.{◌≡◌, sym, ap₂}
+use mathlib.Core.Path.{◌≡◌, sym}
 use Rattle.std.specs.Prelude.{None}
 use Prim.Native.Nat.{◌+◌, ◌≤◌}
 use native.Mathlib.Omega.{arith}
 use borrow.Author.Rules.{rules}
 use lib.ListN.{length, take, length-take}
 use lib.Seq.{length-take-le}
-use Rattle.meaning.specs.Bytes.{times, rows}
+use Rattle.meaning.specs.Bytes.{rows}
 use Rattle.meaning.specs.Bounds.{widest, coefficients}
 use Rattle.meaning.specs.Refusal.{stand_refusal}
-use Rattle.meaning.specs.Stand.{standing_of}
-use Rattle.meaning.specs.Calls.{StandResult}
+use Rattle.meaning.specs.Stand.{proved, short}
 use Rattle.meaning.proofs.Bytes.{rows_below}
 use Rattle.meaning.proofs.Refusal.{stand_sound}
 use Rattle.meaning.proofs.Called.{given_by}
-use Rattle.meaning.proofs.Standing.{tested_within, standing_proved, standing_short}
-use Rattle.poly.specs.Polynomial.{po}
 use Rattle.witness.specs.Killing.{Killing}
-use Rattle.calls.proofs.Laws.{taken_outcome, stand-written, stand_as}
+use Rattle.calls.proofs.Laws.{stand-written, witness_within}
 use Rattle.algebra.proofs.Orders.{below_take}
 use Rattle.calls.proofs.stand.Goals as goal
 use Rattle.calls.proofs.stand.Goals.{After-put-2, After-take_rows-gathered, After-witness_row-row, In_ok-of_stand}
@@ -69,15 +66,12 @@ witness-witness-requires c =
 pub witness_row-row-requires : goal.witness_row-row-requires
 witness_row-row-requires c =
     let S = stand_sound _ _ _ _ _ _ (taken (goal.at.witness_row-row-requires c).In_ok-of_stand) in
-    let x = c.args in
-    let h : c.witness-witness.result ≤ x.n =
-    tested_within (times x.p x.n x.m.now) x.n (po x.p c.take_rows-gathered.result.poly) c.witness-witness.result c.witness-witness.ensures in
     record {
       prime = S.0.prime;
       n_le_widest = S.0.size;
       m_len = S.0.matrix;
       good = c.take_rows-gathered.ensures.gathered.good;
-      w_le_n = omega arith;
+      within = witness_within _ _ _ _ _ c.witness-witness.ensures;
     }
 
 -- the coefficients, the image and the buffers have their places
@@ -111,22 +105,14 @@ passed : (c : After-put-2) →
     stand_refusal x.p x.n x.m.now x.cs.now x.poly.now x.image.now ≡ None
 passed c = sym c.in_ok-of_stand.ensures
 
--- what is given, with the standing and the witness as they were found
-written : (c : After-put-2) →
-    let x = c.args in
-    StandResult x.p x.n x.m.now x.cs.now x.allowance (x.poly.now, x.image.now)
-    (taken_outcome c.take_rows-gathered.result (standing_of c.witness-witness.result) c.witness-witness.result) (c.put.new.out, c.put-2.new.out)
-written c =
-    stand-written c.take_rows-gathered.ensures.gathered c.witness-witness.ensures (stand_sound _ _ _ _ _ _ (passed c)).0.size c.put.ensures
-    c.witness_row-row.ensures c.put-2.ensures
+pub returns-in-None : goal.returns-in-None
+returns-in-None c =
+    let P = passed (goal.at.returns-in-None c).After-put-2 in
+    let row = rw c.in-None.is at c.witness_row-row.ensures in
+    given_by P (stand-written proved 0 c.take_rows-gathered.ensures.gathered c.in-None.ensures (stand_sound _ _ _ _ _ _ P).0.size c.put.ensures row c.put-2.ensures)
 
-pub returns-then-witness-eq0 : goal.returns-then-witness-eq0
-returns-then-witness-eq0 c =
-    let none_found : c.witness-witness.result ≡ 0 = omega arith in
-    let g = c.take_rows-gathered.result in
-    given_by (passed (goal.at.returns-then-witness-eq0 c).After-put-2) (stand_as (ap₂ (taken_outcome g) (standing_proved _ none_found) none_found) (written (goal.at.returns-then-witness-eq0 c).After-put-2))
-
-pub returns : goal.returns
-returns c =
-    let found : ¬ (c.witness-witness.result ≡ 0) = omega arith in
-    given_by (passed (goal.at.returns c).After-put-2) (rw (standing_short _ found) at (written (goal.at.returns c).After-put-2))
+pub returns-in-Some : goal.returns-in-Some
+returns-in-Some c =
+    let P = passed (goal.at.returns-in-Some c).After-put-2 in
+    let row = rw c.in-Some.is at c.witness_row-row.ensures in
+    given_by P (stand-written short c.in-Some.i c.take_rows-gathered.ensures.gathered c.in-Some.ensures (stand_sound _ _ _ _ _ _ P).0.size c.put.ensures row c.put-2.ensures)
