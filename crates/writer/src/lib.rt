@@ -23,7 +23,7 @@ fn lay(s: &[u8], out: &mut [u8], at: usize) -> usize
     ensures { LaidAt out.old at s.now result out.new }
 {
     let behind = at + s.len();
-    rows::copy(s, &mut out[at..behind]);
+    out[at..behind].copy_from_slice(s);
     behind
 }
 
@@ -43,15 +43,9 @@ fn lay_rows(letter: u8, n: usize, s: &[u8], out: &mut [u8], at: usize) -> usize
     requires s_in_bounds { at + length (marked letter (byte_rows n s.now)) ≤ length out.old }
     ensures { LaidAt out.old at (marked letter (byte_rows n s.now)) result out.new }
 {
-    let count = s.len() / n;
     let mut behind = at;
-    let mut i = 0;
-    while i < count {
-        let from = i * n;
-        let to = from + n;
-        let next = lay_row(letter, &s[from..to], out, behind);
-        behind = next;
-        i += 1;
+    for row in s.chunks_exact(n) {
+        behind = lay_row(letter, row, out, behind);
     }
     behind
 }
