@@ -2,13 +2,13 @@
 #![tactic(auto)]
 
 ghost use Rattle.std.specs.Prelude.{◌≡◌, [], ◌∷◌, ◌++◌, ◌+◌, ◌≤◌, length};
-ghost use Rattle.meaning.specs.Design.{spot_at};
 ghost use Rattle.meaning.specs.Line.{spaced};
 ghost use Rattle.meaning.specs.Mistake.{expected_words, mistake};
 ghost use Rattle.design.specs.Expecting.{expected_as};
+ghost use Rattle.design.specs.Drawn.{mistake_of};
 ghost use Rattle.mistake.specs.Room.{before_words};
 
-use design::Expected;
+use design::{Expected, Mistake};
 use meaning::MOST_ALLOWANCE;
 use text::Text;
 
@@ -47,13 +47,13 @@ fn words(t: &mut Text, e: Expected)
 
 // The line and the cell, and what was expected there.
 #[tactic(auto, unfolding(meaning::specs::Sheet::sheet_room, meaning::specs::Mistake::mistake))]
-pub fn message(line: usize, cell: usize, e: Expected) -> Text
-    ensures { result ≡ mistake (spot_at line cell) (expected_as e) }
+pub fn message(m: Mistake) -> Text
+    ensures { result ≡ mistake (mistake_of m).0 (mistake_of m).1 }
 {
     let mut t = Text::new();
-    numbered(&mut t, b"line", line);
-    numbered(&mut t, b", cell", cell);
+    numbered(&mut t, b"line", m.spot.line);
+    numbered(&mut t, b", cell", m.spot.cell);
     t.word(b": expected ");
-    words(&mut t, e);
+    words(&mut t, m.expected);
     t
 }

@@ -4,18 +4,11 @@
 ghost use Rattle.std.specs.Prelude.{◌∷◌, ◌+◌, ◌<◌, ◌≤◌, length};
 ghost use Rattle.meaning.specs.Bytes.{byte_rows};
 ghost use Rattle.meaning.specs.Writing.{WriteCall};
-ghost use Rattle.writer.specs.Answers.{written_of};
+ghost use Rattle.reasons.specs.Reasons.{answer_of};
 ghost use Rattle.writer.specs.Laying.{LaidAt, marked, WholeRows};
 
 use meaning::{MARK, RADIX};
-use reasons::{Checked, Reason};
-
-// The length of the case.
-#[derive(Clone, Copy)]
-pub enum Written {
-    Length(usize),
-    Refused(Reason),
-}
+use reasons::Reason;
 
 // The bytes of s from `at` on. What is returned is the place behind them.
 fn lay(s: &[u8], out: &mut [u8], at: usize) -> usize
@@ -50,13 +43,18 @@ fn lay_rows(letter: u8, n: usize, s: &[u8], out: &mut [u8], at: usize) -> usize
     behind
 }
 
-// The case with these values at the front of `out`; its A record has how often 128 goes into the allowance, and what is left over.
-pub fn write(p: u32, n: usize, m: &[u8], cs: &[u8], allowance: u32, out: &mut [u8]) -> Written
-    ensures { WriteCall p n m.now cs.now allowance out.old (written_of result) out.new }
+// The case with these values at the front of `out`, and its length; its A record has how often 128 goes into the allowance, and what is left over.
+pub fn write(
+    p: u32,
+    n: usize,
+    m: &[u8],
+    cs: &[u8],
+    allowance: u32,
+    out: &mut [u8],
+) -> Result<usize, Reason>
+    ensures { WriteCall p n m.now cs.now allowance out.old (answer_of result) out.new }
 {
-    if let Checked::Refused(reason) = refusals::of_write(p, n, m, cs, allowance, out) {
-        return Written::Refused(reason);
-    }
+    refusals::of_write(p, n, m, cs, allowance, out)?;
     let high = (allowance / RADIX) as u8;
     let low = (allowance % RADIX) as u8;
     let head = [MARK, b'F', p as u8, n as u8, MARK, b'A', high, low];
@@ -64,5 +62,5 @@ pub fn write(p: u32, n: usize, m: &[u8], cs: &[u8], allowance: u32, out: &mut [u
     let behind_rows = lay_rows(b'R', n, m, out, behind_head);
     let behind_candidates = lay_rows(b'C', n, cs, out, behind_rows);
     let end = [MARK, b'E'];
-    Written::Length(lay(&end, out, behind_candidates))
+    Ok(lay(&end, out, behind_candidates))
 }

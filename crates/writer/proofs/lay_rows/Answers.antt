@@ -1,9 +1,9 @@
 -- `writer::lay_rows` meets its contract. Invariant: the records of the rows so far are laid down, `behind` is the place behind them, and the iterator has
 -- the rows behind them. Assumes nothing.
-use Rattle.std.proofs.Common.{◌≡◌, ℕ, ◌+◌, ◌*◌, ◌<◌, ◌≤◌, List, [], ◌∷◌, ◌++◌, length, sym, ap, subst, ◌∙◌, arith, length-append, rules}
+use Rattle.std.proofs.Common.{◌+◌, ◌<◌, ◌≤◌, [], ◌∷◌, length, sym, subst, ◌∙◌, arith, length-append, rules}
 use Rattle.meaning.specs.Bytes.{byte_rows}
 use Rattle.writer.specs.Laying.{LaidAt, marked}
-use Rattle.writer.proofs.Laws.{laid_start, laid_length, marked_all, rows_fit, rows_turn, NextRow, next_row, last_row}
+use Rattle.writer.proofs.Laws.{laid_start, marked_all, rows_fit, rows_turn, NextRow, next_row, last_row}
 use Rattle.writer.proofs.lay_rows.Goals as goal
 use Rattle.writer.proofs.lay_rows.Goals.{In-Some, In-None}
 
@@ -29,8 +29,7 @@ pub loop-row-preserved : goal.loop-row-preserved
 loop-row-preserved c =
     let x = c.args in
     let N = next (goal.at.loop-row-preserved c).In-Some in
-    rw (length-append c.loop-row.yielded (c.in-Some.row ∷ []))
-    (
+    rw (length-append c.loop-row.yielded (c.in-Some.row ∷ [])) (
       c.in-Some.ensures.steps.0 ∙ c.loop-row.invariant.0,
       N.behind,
       rows_turn x.letter x.n x.s.now N.more c.requires.s_in_bounds c.loop-row.invariant.2 N.row c.lay_row-behind.ensures,

@@ -1,6 +1,6 @@
 -- `writer::lay_rows` meets its contract. Invariant: the records of the rows so far are laid down, `behind` is the place behind them, and the iterator has
 -- the rows behind them. Assumes nothing.
-use Rattle.std.proofs.Common.{◌≡◌, ◌*◌, ◌≤◌, length, take, drop}
+use Rattle.std.proofs.Common.{◌≡◌, ◌*◌, length, take, drop}
 use Rattle.meaning.specs.Bytes.{byte_rows}
 use Rattle.writer.specs.Laying.{LaidAt, marked}
 use Rattle.writer.proofs.lay_rows.Given as goal
