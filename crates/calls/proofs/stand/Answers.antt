@@ -70,7 +70,7 @@ witness_row-row-requires c =
       prime = S.0.prime;
       n_le_widest = S.0.size;
       m_len = S.0.matrix;
-      good = c.take_rows-gathered.ensures.gathered.good;
+      same_prime = c.take_rows-gathered.ensures.gathered.good.same;
       within = witness_within _ _ _ _ _ c.witness-witness.ensures;
     }
 
