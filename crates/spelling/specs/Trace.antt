@@ -6,11 +6,10 @@
 --   step x b       behind one byte more
 --   steps x bs     behind more bytes, one after another
 --   started        before the first byte
---   pieces_from b s at   the pieces between the bytes b of s, from the place `at` on; none behind its end
 -- Assumes nothing.
-use Rattle.std.specs.Prelude.{Bool, true, false, cond, List, [], ◌∷◌, ℕ, ◌+◌, length, set, drop, leb, ltb}
+use Rattle.std.specs.Prelude.{Bool, true, false, cond, List, [], ◌∷◌, ℕ, ◌+◌, length, set, ltb}
 use Rattle.std.specs.Prelude.{None, Some, is_some}
-use Rattle.meaning.specs.Design.{Spot, Said, spot_at, cut_at}
+use Rattle.meaning.specs.Design.{Spot, Said, spot_at}
 use Rattle.scan.specs.declared.State.{State}
 use Rattle.scan.specs.declared.State.TheVariants.{Start, Opening, Modulus, Size, Body, Letter, Entries, Over, Dead}
 use Rattle.scan.specs.Machine.{after}
@@ -55,6 +54,3 @@ steps x (b ∷ bs) = steps (step x b) bs
 
 abbrev pub started : Trace
 started = record { state = Start; count = 0; wrong = None }
-
-unfoldable pub pieces_from : ℕ → List ℕ → ℕ → List (List ℕ)
-pieces_from b s at = cond (leb at (length s)) (cut_at b (drop at s)) []

@@ -2,14 +2,15 @@
 // first that does not is kept.
 #![tactic(auto)]
 
-ghost use Rattle.std.specs.Prelude.{◌≡◌, ◌∷◌, [], map, ◌+◌, length};
-ghost use Rattle.std.specs.Prelude.{Some};
-ghost use Rattle.meaning.specs.Design.{said, spot_at, halves_in, byte_in, cell_bytes, cells_in, cells_said, line_said, end_of, text_said};
-ghost use Rattle.spelling.specs.Trace.{spot_of, step, steps, started, pieces_from};
+ghost use Rattle.std.specs.Prelude.{◌≡◌, map};
+ghost use Rattle.meaning.specs.Design.{said, cell_bytes, cells_in, line_said, end_of, text_said};
+ghost use Rattle.spelling.specs.Trace.{spot_of, step, steps, started};
 
-use cells::NO_BYTE;
-use meaning::{MARK, MOST_ALLOWANCE, RADIX};
+use meaning::{MARK, RADIX};
 use scan::State;
+
+// What is no word and no number is taken for this: no byte of a case, wherever it stands.
+const NO_BYTE: u8 = 254;
 
 // A line and a cell of a text, counted from 1.
 #[derive(Clone, Copy)]
@@ -52,38 +53,18 @@ fn say(t: Trace, b: u8, at: Spot, out: &mut [u8]) -> Trace
     Trace { state: next, ..t }
 }
 
-// The halves of an allowance.
-fn say_halves(t: Trace, v: u32, at: Spot, out: &mut [u8]) -> Trace
-    ensures { (result, out.new) ≡ steps (t, out.old) (map (said (spot_of at)) (halves_in (Some v))) }
-{
-    if MOST_ALLOWANCE < v {
-        return say(t, NO_BYTE, at, out);
-    }
-    let high = say(t, (v / RADIX) as u8, at, out);
-    say(high, (v % RADIX) as u8, at, out)
-}
-
-// An entry.
-#[tactic(auto, using(crate::proofs::Saying::entry_said, crate::proofs::Saying::entry_none))]
-fn say_entry(t: Trace, v: u32, at: Spot, out: &mut [u8]) -> Trace
-    ensures { (result, out.new) ≡ steps (t, out.old) (said (spot_of at) (byte_in (Some v)) ∷ []) }
-{
-    if v < NO_BYTE as u32 {
-        return say(t, v as u8, at, out);
-    }
-    say(t, NO_BYTE, at, out)
-}
-
-// What a cell behind the word says.
-#[tactic(auto, using(crate::proofs::Saying::cell_halves, crate::proofs::Saying::cell_entry))]
+// What a cell behind the word says: in a line with an allowance its halves, else an entry.
 fn say_cell(t: Trace, letter: u8, w: &[u8], at: Spot, out: &mut [u8]) -> Trace
     ensures { (result, out.new) ≡ steps (t, out.old) (map (said (spot_of at)) (cell_bytes letter w.now)) }
 {
-    let v = cells::number(w);
-    if letter == b'A' {
-        return say_halves(t, v, at, out);
+    match cells::number(w) {
+        Some(v) if letter == b'A' => {
+            let high = say(t, (v / RADIX) as u8, at, out);
+            say(high, (v % RADIX) as u8, at, out)
+        }
+        Some(v) if v < u32::from(NO_BYTE) => say(t, v as u8, at, out),
+        _ => say(t, NO_BYTE, at, out),
     }
-    say_entry(t, v, at, out)
 }
 
 // How far it has come with a line: behind its last cell, or where the line before ended.
@@ -93,27 +74,25 @@ pub struct Lined {
     pub spot: Spot,
 }
 
-// What the cells of a line say from the place `from` on; the first of them is the second cell of the line.
-fn say_cells(
-    t: Trace,
-    letter: u8,
-    l: &[u8],
-    from: usize,
-    s: u8,
-    line: usize,
-    out: &mut [u8],
-) -> Lined
-    ensures out_after { (result.trace, out.new) ≡ steps (t, out.old) (cells_said letter line 2 (pieces_from s l.now from)) }
-    ensures spot_after { spot_of result.spot ≡ spot_at line (2 + length (pieces_from s l.now from)) }
+// What a line says; `before` is where the line before ended.
+fn say_line(before: Lined, l: &[u8], s: u8, line: usize, out: &mut [u8]) -> Lined
+    ensures out_after { (result.trace, out.new) ≡ steps (before.trace, out.old) (line_said (spot_of before.spot) line (cells_in s l.now)) }
+    ensures spot_after { spot_of result.spot ≡ end_of (spot_of before.spot) line (cells_in s l.now) }
 {
-    let mut trace = t;
-    let mut at = from;
+    let used = cells::used_part(l, s);
+    if used.is_empty() {
+        return before;
+    }
+    let mut pieces = used.split(|b| *b == s);
+    let Some(word) = pieces.next() else {
+        return before;
+    };
+    let letter = cells::letter(word).unwrap_or(NO_BYTE);
+    let marked = say(before.trace, MARK, before.spot, out);
+    let mut trace = say(marked, letter, Spot { line, cell: 1 }, out);
     let mut cell = 2;
-    while at <= l.len() {
-        let end = cells::find(l, at, s);
-        let next = say_cell(trace, letter, &l[at..end], Spot { line, cell }, out);
-        trace = next;
-        at = end + 1;
+    for w in pieces {
+        trace = say_cell(trace, letter, w, Spot { line, cell }, out);
         cell += 1;
     }
     Lined {
@@ -122,30 +101,11 @@ fn say_cells(
     }
 }
 
-// What a line says; `before` is where the line before ended.
-fn say_line(before: Lined, l: &[u8], s: u8, line: usize, out: &mut [u8]) -> Lined
-    ensures out_after { (result.trace, out.new) ≡ steps (before.trace, out.old) (line_said (spot_of before.spot) line (cells_in s l.now)) }
-    ensures spot_after { spot_of result.spot ≡ end_of (spot_of before.spot) line (cells_in s l.now) }
-{
-    let end = cells::used_part(l, s);
-    if end == 0 {
-        return before;
-    }
-    let used = &l[..end];
-    let first = cells::find(used, 0, s);
-    let letter = cells::letter(&used[..first]);
-    let marked = say(before.trace, MARK, before.spot, out);
-    let named = say(marked, letter, Spot { line, cell: 1 }, out);
-    say_cells(named, letter, used, first + 1, s, line, out)
-}
-
 // What a text says: its lines, and its end.
 pub fn spell(text: &[u8], out: &mut [u8]) -> Trace
     ensures { (result, out.new) ≡ steps (started, out.old) (text_said text.now) }
 {
     let s = cells::separator(text);
-    let mut at = cells::front(text);
-    let mut line = 1;
     let mut here = Lined {
         trace: Trace {
             state: State::Start,
@@ -154,11 +114,10 @@ pub fn spell(text: &[u8], out: &mut [u8]) -> Trace
         },
         spot: Spot { line: 0, cell: 1 },
     };
-    while at <= text.len() {
-        let end = cells::find(text, at, b'\n');
-        let next = say_line(here, &text[at..end], s, line, out);
-        here = next;
-        at = end + 1;
+    let mut line = 1;
+    let body = cells::without_mark(text);
+    for l in body.split(|b| *b == b'\n') {
+        here = say_line(here, l, s, line, out);
         line += 1;
     }
     let marked = say(here.trace, MARK, here.spot, out);
