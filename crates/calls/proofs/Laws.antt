@@ -5,33 +5,35 @@
 --   gathered_common   the least polynomial that sends the taken rows to zero is the lcm of their orders
 --   gathered-stand    what was gathered, and the test of its polynomial, are the stand
 --   stand-written   the stand's two buffers, with the coefficients and the image of the witness
---   witness_within  the witness is one of the n unit rows
 --   chain-written   the chain's two buffers, with the product and the stage record
+--   inverse_told, order_told, image_told, stand_told, chain_told, period_told   what is known of an input that is not refused
+--   given_told      a call that is not refused gives its result
+--   told            these, for the calls
 -- Assumes nothing.
 use mathlib.Core.Path.{◌≡◌, sym, ap, ◌∙◌}
 use mathlib.Core.List.{List}
-use Prim.Native.Nat.{ℕ, suc, ◌+◌, ◌≤◌}
+use Prim.Native.Nat.{ℕ, suc, ◌+◌, ◌<◌, ◌≤◌}
 use native.Mathlib.Omega.{arith}
-use lib.ListN.{take}
-use Rattle.algebra.specs.Row.{S}
-use Rattle.algebra.specs.Poly.{Poly, coef}
+use lib.ListN.{length, take}
+use Rattle.algebra.specs.Poly.{coef}
 use Rattle.algebra.specs.Orders.{polys}
 use Rattle.algebra.proofs.Poly.{least_same}
 use Rattle.algebra.proofs.Orders.{multiples_kill, kills_multiples, orders_take}
-use Rattle.meaning.specs.Bytes.{row, rows, times, bytes, write}
-use Rattle.meaning.specs.Bounds.{widest}
+use Rattle.meaning.specs.Bytes.{Small, row, rows, times, bytes, write}
 use Rattle.meaning.specs.Polynomial.{IsOrder, IsLcm}
-use Rattle.meaning.specs.Stand.{Standing, Tested, Outcome, IsStand, FirstUnsent, witness_row}
+use Rattle.meaning.specs.Stand.{Standing, Tested, Outcome, IsStand, witness_row}
 use Rattle.meaning.specs.Chain.{stage_bytes, stage_room}
 use Rattle.std.specs.Prelude.{Option, None, Some, Result}
-use Rattle.std.specs.Option.{MatchOption, IfSome}
 use Rattle.std.specs.Result.{IsErrAnd}
 use Rattle.std.proofs.lemmas.Result.{err_from_is_err_and}
 use Rattle.reasons.specs.declared.Reason.{Reason}
 use Rattle.reasons.specs.Reasons.{as_refusal, answer_of}
-use Rattle.meaning.specs.Refusal.{Refusal}
-use Rattle.meaning.proofs.Called.{refused_by}
-use Rattle.meaning.specs.Calls.{Called, OrderResult, StandResult, ChainResult}
+use Rattle.algebra.specs.Field.{Prime}
+use Rattle.meaning.specs.Bounds.{widest, coefficients, largest_prime, Sound, SoundRows}
+use Rattle.meaning.specs.Refusal.{Refusal, inverse_refusal, order_refusal, image_refusal, stand_refusal, chain_refusal, period_refusal}
+use Rattle.meaning.proofs.Refusal.{inverse_sound, order_sound, image_sound, stand_sound, chain_sound, period_sound}
+use Rattle.meaning.proofs.Called.{refused_by, given_by}
+use Rattle.meaning.specs.Calls.{Called, given, OrderResult, StandResult, ChainResult}
 use Rattle.meaning.proofs.Bytes.{times_linear}
 use Rattle.meaning.proofs.Unique.{least-lcm}
 use Rattle.meaning.proofs.Degrees.{chain_record}
@@ -90,12 +92,6 @@ stand-written {p} {n} {g = g} {old = old} s w G T h e b x = record {
   witness = x ∙ ap (λ l. write l old.1) b;
 }
 
--- a witness that was found is one of the n unit rows
-pub witness_within : {p : ℕ} (X : S p → S p) (n : ℕ) (f : Poly p) (P : Type 0) (w : Option ℕ) → MatchOption w P (FirstUnsent X n f)
-    → IfSome w (λ i. (1 ≤ i) × (i ≤ n))
-witness_within X n f P None T = tt
-witness_within X n f P (Some i) T = (T.from, T.to)
-
 pub chain-written : {p n : ℕ} {m cs : List ℕ} {c : Links} {old new : List ℕ × List ℕ} → IsLinked p n m cs c → n ≤ widest
     → new.0 ≡ write (take (n + 1) c.product.c) old.0 → new.1 ≡ write (take (stage_room n) c.«record») old.1
     → ChainResult p n m cs old c.stages new
@@ -109,3 +105,30 @@ chain-written {n = n} {m} {cs} {old = old} L h e x =
       product = e ∙ ap (λ l. write l old.0) (good_bytes n F.good h ∙ ap (bytes (suc n)) F.value);
       record_content = x ∙ ap (λ l. write l old.1) (ap (take (stage_room n)) L.record_content ∙ padded_front _ _ (stage_bytes L.stages) short (omega arith));
     }
+
+-- what is known of an input that is not refused
+pub inverse_told : (p a : ℕ) → None ≡ inverse_refusal p a → Prime p × (p ≤ largest_prime) × (a < p)
+inverse_told p a e = inverse_sound p a (sym e)
+
+pub order_told : (p n : ℕ) (m v out : List ℕ) → None ≡ order_refusal p n m v out → Sound p n m × (length v ≡ n) × Small p v × (n + 1 ≤ length out)
+order_told p n m v out e = order_sound p n m v out (sym e)
+
+pub image_told : (p n : ℕ) (m v f out : List ℕ) → None ≡ image_refusal p n m v f out
+    → Sound p n m × (length v ≡ n) × (1 ≤ length f) × (length f ≤ coefficients) × Small p v × Small p f × (n ≤ length out)
+image_told p n m v f out e = image_sound p n m v f out (sym e)
+
+pub stand_told : (p n : ℕ) (m cs poly image : List ℕ) → None ≡ stand_refusal p n m cs poly image
+    → Sound p n m × SoundRows p n cs × (n + 1 ≤ length poly) × (n ≤ length image)
+stand_told p n m cs poly image e = stand_sound p n m cs poly image (sym e)
+
+pub chain_told : (p n : ℕ) (m cs product stages : List ℕ) → None ≡ chain_refusal p n m cs product stages
+    → Sound p n m × SoundRows p n cs × (n + 1 ≤ length product) × (stage_room n ≤ length stages)
+chain_told p n m cs product stages e = chain_sound p n m cs product stages (sym e)
+
+pub period_told : (p n : ℕ) (m : List ℕ) → None ≡ period_refusal p n m → Sound p n m
+period_told p n m e = period_sound p n m (sym e)
+
+pub given_told : {A B : Type 0} (q : Option Refusal) (R : A → B → Type 0) (old new : B) (r : A) → None ≡ q → R r new → Called q R old (given r) new
+given_told q R old new r e h = given_by (sym e) h
+
+pub ruleset told = (refused_exit, inverse_told, order_told, image_told, stand_told, chain_told, period_told, given_told)

@@ -1,6 +1,6 @@
 // The calls, as a customer makes them. Every call answers for all inputs: what is wrong is refused with its reason, in the order of the refusal table,
 // and a refused call changes no byte lent to it.
-#![tactic(auto, using(crate::proofs::Laws::refused_exit))]
+#![tactic(auto, using(crate::proofs::Laws::told))]
 
 ghost use Rattle.std.specs.Prelude.{◌≡◌, ◌≤◌, length};
 ghost use Rattle.meaning.specs.Bytes.{write};
