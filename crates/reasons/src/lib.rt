@@ -8,7 +8,6 @@ ghost use Rattle.meaning.specs.Bounds.{widest};
 ghost use Rattle.reasons.specs.Reasons.{as_refusal, numbers_of, checked_of, cell_of};
 
 use meaning::{COEFFICIENTS, MOST_ALLOWANCE, MOST_CANDIDATES, WIDEST};
-use rows::Found;
 
 // The row and the column of an entry, counted from 1.
 #[derive(Clone, Copy)]
@@ -154,13 +153,11 @@ fn bad_entry(p: u32, n: usize, s: &[u8]) -> Option<Cell>
     requires { 0 < n }
     ensures { option_map cell_of result ≡ bad_entry p n s.now }
 {
-    match rows::first_bad(p, s) {
-        Found::At(i) => Some(Cell {
-            row: 1 + i / n,
-            column: 1 + i % n,
-        }),
-        Found::Nothing => None,
-    }
+    let i = rows::first_bad(p, s)?;
+    Some(Cell {
+        row: 1 + i / n,
+        column: 1 + i % n,
+    })
 }
 
 // Test 5.
@@ -190,8 +187,8 @@ pub fn coefficient(p: u32, f: &[u8]) -> Result<(), Reason>
     ensures { checked_of result ≡ refuse_at 11 (bad_coefficient p f.now) }
 {
     match rows::first_bad(p, f) {
-        Found::At(i) => Err(Reason::Coefficient(1 + i)),
-        Found::Nothing => Ok(()),
+        Some(i) => Err(Reason::Coefficient(1 + i)),
+        None => Ok(()),
     }
 }
 
