@@ -8,6 +8,7 @@ ghost use Rattle.meaning.specs.Calls.{InverseCall, OrderCall, ImageCall, StandCa
 ghost use Rattle.reasons.specs.Reasons.{answer_of};
 ghost use Rattle.calls.specs.Answers.{stood_of};
 
+use matrix::Machine;
 use period::Returns;
 use reasons::Reason;
 
@@ -51,8 +52,9 @@ pub fn order(p: u32, n: usize, m: &[u8], v: &[u8], out: &mut [u8]) -> Result<usi
     ensures { OrderCall p n m.now v.now out.old (answer_of result) out.new }
 {
     refusals::of_order(p, n, m, v, out)?;
+    let machine = Machine { p: p as u8, n, m };
     let mut kept_rows = [0u8; slots::KEPT_ROOM];
-    let f = spin::spin(p as u8, n, m, v, &mut kept_rows, 0);
+    let f = spin::spin(&machine, v, &mut kept_rows, 0);
     put(&f.c[..n + 1], out);
     Ok(f.deg)
 }
@@ -81,12 +83,12 @@ pub fn stand(
     ensures { StandCall p n m.now cs.now allowance (poly.old, image.old) (stood_of result) (poly.new, image.new) }
 {
     refusals::of_stand(p, n, m, cs, poly, image)?;
-    let field = p as u8;
+    let machine = Machine { p: p as u8, n, m };
     let mut kept_rows = [0u8; slots::KEPT_ROOM];
-    let gathered = taken::take_rows(field, n, m, cs, allowance, &mut kept_rows);
+    let gathered = taken::take_rows(&machine, cs, allowance, &mut kept_rows);
     let f = gathered.poly;
-    let witness = witness::witness(field, n, m, f, &mut kept_rows, gathered.known);
-    let row = witness::witness_row(field, n, m, f, witness);
+    let witness = witness::witness(&machine, f, &mut kept_rows, gathered.known);
+    let row = witness::witness_row(&machine, f, witness);
     put(&f.c[..n + 1], poly);
     put(&row[..n], image);
     let counts = Counts {
@@ -113,7 +115,8 @@ pub fn chain(
     ensures { ChainCall p n m.now cs.now (product.old, stages.old) (answer_of result) (product.new, stages.new) }
 {
     refusals::of_chain(p, n, m, cs, product, stages)?;
-    let links = stages::link(p as u8, n, m, cs);
+    let machine = Machine { p: p as u8, n, m };
+    let links = stages::link(&machine, cs);
     put(&links.product.c[..n + 1], product);
     put(&links.record[..2 * n], stages);
     Ok(links.stages)
