@@ -8,7 +8,7 @@ ghost use Rattle.cells.specs.Cells.{used_part, letter_in, small};
 
 use meaning::MOST_ALLOWANCE;
 
-// Numbers from here on are no more than a wrong cell says.
+// A number from here on is no entry, no size and no allowance, so it says no more than a wrong cell.
 const TOO_LARGE: u32 = MOST_ALLOWANCE + 1;
 
 fn is_separator(b: u8) -> bool

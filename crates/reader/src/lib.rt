@@ -219,7 +219,8 @@ impl<'a> Reader<'a> {
     }
 }
 
-// The step at a place between two records, by a reader at that place.
+// The step at a place between two records, by a reader at that place. It stands beside the reader, as docs/CALLS.md has it: a cursor is a plain value that a
+// caller can keep, to make the same step again.
 pub fn step_from(s: &[u8], c: Cursor) -> Stepped
     ensures { StepIs s.now c.at result }
 {

@@ -90,6 +90,7 @@ fn say_line(before: Lined, l: &[u8], s: u8, line: usize, out: &mut [u8]) -> Line
     let letter = cells::letter(word).unwrap_or(NO_BYTE);
     let marked = say(before.trace, MARK, before.spot, out);
     let mut trace = say(marked, letter, Spot { line, cell: 1 }, out);
+    // counted as a reader of the text does; `enumerate` would count from 0, and the last number is needed behind the loop
     let mut cell = 2;
     for w in pieces {
         trace = say_cell(trace, letter, w, Spot { line, cell }, out);
@@ -114,6 +115,7 @@ pub fn spell(text: &[u8], out: &mut [u8]) -> Trace
         },
         spot: Spot { line: 0, cell: 1 },
     };
+    // counted from 1, where `enumerate` counts from 0
     let mut line = 1;
     let body = cells::without_mark(text);
     for l in body.split(|b| *b == b'\n') {
