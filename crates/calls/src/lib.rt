@@ -9,7 +9,6 @@ ghost use Rattle.reasons.specs.Reasons.{answer_of};
 ghost use Rattle.calls.specs.Answers.{stood_of};
 
 use matrix::Machine;
-use period::Returns;
 use reasons::Reason;
 
 // What a stand counts: the polynomial's degree, the rows taken, the products spent.
@@ -127,8 +126,5 @@ pub fn period(p: u32, n: usize, m: &[u8]) -> Result<Option<u32>, Reason>
     ensures { PeriodCall p n m.now (answer_of result) }
 {
     refusals::of_period(p, n, m)?;
-    match period::period(p as u8, n, m) {
-        Returns::Least(t) => Ok(Some(t)),
-        Returns::Never => Ok(None),
-    }
+    Ok(period::period(p as u8, n, m))
 }
