@@ -18,7 +18,7 @@ use text::Text;
 // A buffer of so many bytes has room for every sheet.
 pub const ROOM: usize = text::ROOM;
 
-// STAGE with the coefficients of a stage and its leading 1.
+// STAGE with the coefficients of a stage and its leading 1. Not `Text::line`, which takes its numbers from one slice; so with WITNESS below.
 fn stage_line(t: &mut Text, s: &[u8])
     requires { HasRoom t.old (line_of (ascii "STAGE") (s.now ++ (1 ∷ []))) }
     ensures { t.new ≡ t.old ++ line_of (ascii "STAGE") (s.now ++ (1 ∷ [])) }

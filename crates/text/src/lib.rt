@@ -105,7 +105,8 @@ impl Text {
         self.len = end;
     }
 
-    // A number in decimal, the highest digit first.
+    // A number in decimal, the highest digit first. `write!` would be no plainer: its error cannot come here, and it promises std's digits,
+    // not those of `decimal`.
     fn number(&mut self, x: usize)
         requires { HasRoom self.old (decimal x) }
         ensures { self.new ≡ self.old ++ decimal x }

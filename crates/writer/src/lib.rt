@@ -10,7 +10,7 @@ ghost use Rattle.writer.specs.Laying.{LaidAt, marked, WholeRows};
 use meaning::{MARK, RADIX};
 use reasons::Reason;
 
-// The bytes of s from `at` on. What is returned is the place behind them.
+// The bytes of s from `at` on. What is returned is the place behind them; a struct that holds buffer and place would need a clause on what it lends.
 fn lay(s: &[u8], out: &mut [u8], at: usize) -> usize
     requires { at + length s.now ≤ length out.old }
     ensures { LaidAt out.old at s.now result out.new }
