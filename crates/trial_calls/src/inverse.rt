@@ -2,15 +2,12 @@
 use crate::{modulus, refuse};
 use calls::Inverted;
 use std::io;
+use trial_lines::Line;
 
-pub fn answer(rt: &impl Print, line: &[u8]) -> io::Result<()> {
-    let inverted = calls::inverse(
-        modulus(line),
-        trial_lines::number(trial_lines::group(line, 1)),
-    );
-    match inverted {
-        Inverted::Inverse(b) => trial_lines::print_byte(rt, b),
-        Inverted::None => trial_lines::print(rt, b" none"),
+pub fn answer(rt: &impl Print, line: Line) -> io::Result<()> {
+    match calls::inverse(modulus(line), line.number(1)) {
+        Inverted::Inverse(b) => print!(rt; " {b}"),
+        Inverted::None => print!(rt; " none"),
         Inverted::Refused(reason) => refuse(rt, reason),
     }
 }

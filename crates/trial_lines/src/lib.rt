@@ -3,7 +3,7 @@
 // what an index needs; what a line means is shown by running the programs over it.
 #![tactic(auto)]
 
-ghost use Rattle.std.specs.Prelude.{◌<◌, ◌≤◌, length, IfSome};
+ghost use Rattle.std.specs.Prelude.{◌<◌, ◌≤◌, length, IfOk, IfSome};
 
 use std::io;
 
@@ -55,6 +55,29 @@ fn next_run(s: &[u8]) -> Option<(Run, &[u8])>
     Some((once, behind))
 }
 
+// A group has more numbers than there is room for.
+#[derive(Clone, Copy)]
+pub struct TooLong;
+
+// Why a line has no answer.
+#[derive(Drop)]
+pub enum Unanswered {
+    TooLong,
+    Output(io::Error),
+}
+
+impl From<TooLong> for Unanswered {
+    fn from(_: TooLong) -> Unanswered {
+        Unanswered::TooLong
+    }
+}
+
+impl From<io::Error> for Unanswered {
+    fn from(error: io::Error) -> Unanswered {
+        Unanswered::Output(error)
+    }
+}
+
 // A line of the input, without its end.
 #[derive(Clone, Copy)]
 pub struct Line<'a> {
@@ -93,22 +116,22 @@ impl<'a> Line<'a> {
         (self.number(group) % 256) as u8
     }
 
-    // Writes the numbers of a group, modulo 256, at the front of the room and hands them out; nothing where there is not room for all.
-    pub fn fill<'b>(self, group: usize, room: &'b mut [u8]) -> Option<&'b mut [u8]>
-        ensures { IfSome result (λ f. length f.now ≤ length room.old) }
+    // Writes the numbers of a group, modulo 256, at the front of the room and hands them out.
+    pub fn fill<'b>(self, group: usize, room: &'b mut [u8]) -> Result<&'b mut [u8], TooLong>
+        ensures { IfOk result (λ f. length f.now ≤ length room.old) }
     {
         let mut count = 0;
         let mut rest = self.group(group);
         while let Some((run, behind)) = next_run(rest) {
             if room.len() - count < run.count as usize {
-                return None;
+                return Err(TooLong);
             }
             let end = count + run.count as usize;
             room[count..end].fill((run.value % 256) as u8);
             count = end;
             rest = behind;
         }
-        Some(&mut room[..count])
+        Ok(&mut room[..count])
     }
 }
 
@@ -122,7 +145,7 @@ pub fn print_list(rt: &impl Print, s: &[u8]) -> io::Result<()> {
 
 // Reads the lines of standard input, as many bytes as there is room for, and prints a line for each: comment lines, which begin with `#`, and empty ones as
 // they are, and of any other its word and then what the closure prints.
-pub fn answer_lines<F: FnMut(Line) -> io::Result<()>>(
+pub fn answer_lines<F: FnMut(Line) -> Result<(), Unanswered>>(
     rt: &(impl Input + Print),
     room: &mut [u8],
     mut answer: F,
@@ -138,7 +161,11 @@ pub fn answer_lines<F: FnMut(Line) -> io::Result<()>>(
             _ => {
                 let line = Line { bytes };
                 rt.write_all(line.word())?;
-                answer(line)?;
+                match answer(line) {
+                    Ok(()) => {}
+                    Err(Unanswered::TooLong) => print!(rt; " too long")?,
+                    Err(Unanswered::Output(error)) => return Err(error),
+                }
             }
         }
         println!(rt; "")?;
