@@ -1,6 +1,5 @@
 // The call of the chain: p | n | matrix | candidates | product buffer | stage buffer.
 use crate::{LIST_LENT, MATRIX_LENT, ROW_LENT, modulus, refuse, show, size};
-use calls::Chained;
 use trial_lines::{Line, Unanswered};
 
 pub fn answer(rt: &impl Print, line: Line) -> Result<(), Unanswered> {
@@ -13,8 +12,8 @@ pub fn answer(rt: &impl Print, line: Line) -> Result<(), Unanswered> {
     let product = line.fill(4, &mut product)?;
     let stages = line.fill(5, &mut stages)?;
     match calls::chain(modulus(line), size(line), m, cs, product, stages) {
-        Chained::Stages(count) => print!(rt; " stages {count}")?,
-        Chained::Refused(reason) => refuse(rt, reason)?,
+        Ok(count) => print!(rt; " stages {count}")?,
+        Err(reason) => refuse(rt, reason)?,
     }
     show(rt, product)?;
     show(rt, stages)?;

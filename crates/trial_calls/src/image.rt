@@ -1,6 +1,5 @@
 // The call of the image: p | n | matrix | row | polynomial | buffer.
 use crate::{MATRIX_LENT, ROW_LENT, modulus, refuse, show, size};
-use calls::Imaged;
 use trial_lines::{Line, Unanswered};
 
 pub fn answer(rt: &impl Print, line: Line) -> Result<(), Unanswered> {
@@ -13,8 +12,8 @@ pub fn answer(rt: &impl Print, line: Line) -> Result<(), Unanswered> {
     let f = line.fill(4, &mut f)?;
     let out = line.fill(5, &mut out)?;
     match calls::image(modulus(line), size(line), m, v, f, out) {
-        Imaged::Written => print!(rt; " written")?,
-        Imaged::Refused(reason) => refuse(rt, reason)?,
+        Ok(()) => print!(rt; " written")?,
+        Err(reason) => refuse(rt, reason)?,
     }
     show(rt, out)?;
     Ok(())

@@ -10,7 +10,7 @@ mod periods;
 mod stand;
 mod write;
 
-use reasons::Reason;
+use reasons::{Numbers, Reason};
 use std::io;
 use trial_lines::{Line, Unanswered};
 
@@ -33,7 +33,7 @@ fn size(line: Line) -> usize {
 
 // A refusal's number, and where it has one the row and the column of the bad entry.
 fn refuse(rt: &impl Print, reason: Reason) -> io::Result<()> {
-    let numbers = reasons::as_numbers(reason);
+    let numbers = Numbers::from(reason);
     print!(rt; " refused {}", numbers.number)?;
     if numbers.column != 0 {
         print!(rt; " row {} column {}", numbers.row, numbers.column)?;

@@ -1,6 +1,5 @@
 // The call of the order: p | n | matrix | row | buffer.
 use crate::{MATRIX_LENT, ROW_LENT, modulus, refuse, show, size};
-use calls::Ordered;
 use trial_lines::{Line, Unanswered};
 
 pub fn answer(rt: &impl Print, line: Line) -> Result<(), Unanswered> {
@@ -11,8 +10,8 @@ pub fn answer(rt: &impl Print, line: Line) -> Result<(), Unanswered> {
     let v = line.fill(3, &mut v)?;
     let out = line.fill(4, &mut out)?;
     match calls::order(modulus(line), size(line), m, v, out) {
-        Ordered::Degree(degree) => print!(rt; " degree {degree}")?,
-        Ordered::Refused(reason) => refuse(rt, reason)?,
+        Ok(degree) => print!(rt; " degree {degree}")?,
+        Err(reason) => refuse(rt, reason)?,
     }
     show(rt, out)?;
     Ok(())

@@ -20,9 +20,9 @@ fn walk(rt: &impl Print, s: &[u8]) -> io::Result<()> {
     loop {
         let stepped = step(rt, s, at)?;
         at = stepped.next;
-        match stepped.step {
-            Step::Over | Step::Refused(_) => break,
-            _ => {}
+        let Ok(said) = stepped.step else { break };
+        if let Step::Over = said {
+            break;
         }
     }
     step(rt, s, at)?;
@@ -36,19 +36,19 @@ fn step(rt: &impl Print, s: &[u8], at: Cursor) -> io::Result<Stepped>
     let stepped = reader::step_from(s, at);
     print!(rt; " |")?;
     match stepped.step {
-        Step::Field { p, n } => print!(rt; " field {p} {n}")?,
-        Step::Allow { high, low } => print!(rt; " allow {high} {low}")?,
-        Step::Row => {
+        Ok(Step::Field { p, n }) => print!(rt; " field {p} {n}")?,
+        Ok(Step::Allow { high, low }) => print!(rt; " allow {high} {low}")?,
+        Ok(Step::Row) => {
             print!(rt; " row")?;
             trial_lines::print_list(rt, reader::entries(s, stepped))?;
         }
-        Step::Candidate => {
+        Ok(Step::Candidate) => {
             print!(rt; " candidate")?;
             trial_lines::print_list(rt, reader::entries(s, stepped))?;
         }
-        Step::End => print!(rt; " end")?,
-        Step::Over => print!(rt; " over")?,
-        Step::Refused(place) => refuse(rt, place)?,
+        Ok(Step::End) => print!(rt; " end")?,
+        Ok(Step::Over) => print!(rt; " over")?,
+        Err(place) => refuse(rt, place)?,
     }
     Ok(stepped)
 }

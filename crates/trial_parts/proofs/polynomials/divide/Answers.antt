@@ -3,4 +3,4 @@ use Rattle.trial_parts.proofs.Laws.{test_nonzero}
 use Rattle.trial_parts.proofs.polynomials.divide.Goals as goal
 
 pub divide-parts-requires-clause-fact : goal.divide-parts-requires-clause-fact
-divide-parts-requires-clause-fact g c = test_nonzero c.both-given.ensures.1 c.size.ensures c.if-size-eq0.false
+divide-parts-requires-clause-fact g c = test_nonzero c.in_ok-f.ensures.1 c.size.ensures c.if-size-eq0.false
