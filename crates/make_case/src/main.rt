@@ -12,9 +12,11 @@ const MOST_TEXT: usize = 262144;
 fn make(to: &impl Print, errors: &(impl Print + Eprint), text: &[u8]) -> io::Result<()> {
     let mut out = [0u8; LONGEST_CASE];
     match design::make(text, &mut out) {
-        Ok(Ok(k)) => to
-            .write_all(&out[..k])
-            .or_else(|error| input::fail(errors, "make_case: standard output", error)),
+        Ok(Ok(k)) => to.write_all(&out[..k]).or_else(|error| input::fail(
+            errors,
+            "make_case: standard output",
+            error,
+        )),
         Ok(Err(_)) => Ok(()),
         Err(mistake) => {
             errors.write_all(mistake::message(mistake).as_bytes())?;

@@ -15,16 +15,16 @@ pub fn answer(rt: &impl Print, line: Line) -> Result<(), Unanswered> {
     let image = line.fill(6, &mut image)?;
     let allowance = line.number(4);
     match calls::stand(modulus(line), size(line), m, cs, allowance, poly, image) {
-        Stood::Proved(counts) => {
+        Ok(Stood::Proved(counts)) => {
             print!(rt; " proved")?;
             show_counts(rt, counts)?;
         }
-        Stood::Short(counts, witness) => {
+        Ok(Stood::Short(counts, witness)) => {
             print!(rt; " short")?;
             show_counts(rt, counts)?;
             print!(rt; " witness {witness}")?;
         }
-        Stood::Refused(reason) => refuse(rt, reason)?,
+        Err(reason) => refuse(rt, reason)?,
     }
     show(rt, poly)?;
     show(rt, image)?;

@@ -1,7 +1,6 @@
 // The call of the writer: p | n | matrix | candidates | allowance | buffer.
 use crate::{LIST_LENT, MATRIX_LENT, modulus, refuse, show, size};
 use trial_lines::{Line, Unanswered};
-use writer::Written;
 
 // Room for a buffer that is somewhat longer than the longest case.
 const CASE_LENT: usize = 12800;
@@ -14,8 +13,8 @@ pub fn answer(rt: &impl Print, line: Line) -> Result<(), Unanswered> {
     let cs = line.fill(3, &mut cs)?;
     let out = line.fill(5, &mut out)?;
     match writer::write(modulus(line), size(line), m, cs, line.number(4), out) {
-        Written::Length(length) => print!(rt; " length {length}")?,
-        Written::Refused(reason) => refuse(rt, reason)?,
+        Ok(length) => print!(rt; " length {length}")?,
+        Err(reason) => refuse(rt, reason)?,
     }
     show(rt, out)?;
     Ok(())

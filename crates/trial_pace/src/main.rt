@@ -51,12 +51,17 @@ fn stand(rt: &impl Print, work: Work) -> io::Result<()> {
     let mut poly = [0u8; COEFFICIENTS];
     let mut image = [0u8; STAGE_RECORD];
     let stood = repeat(work.times, || {
-        calls::stand(work.p, work.n, work.m, work.cs, ALLOWANCE, &mut poly, &mut image)
+        calls::stand(
+            work.p, work.n, work.m, work.cs, ALLOWANCE, &mut poly, &mut image,
+        )
     });
     match stood {
         None => return Ok(()),
         Some(Ok(Stood::Proved(counts))) => print!(rt; "STAND PROVED 0 {}", counts.degree)?,
-        Some(Ok(Stood::Short(counts, witness))) => print!(rt; "STAND SHORT {witness} {}", counts.degree)?,
+        Some(Ok(Stood::Short(counts, witness))) => print!(rt;
+            "STAND SHORT {witness} {}",
+            counts.degree
+        )?,
         Some(Err(reason)) => refuse(rt, reason)?,
     }
     end_line(rt, &poly)
