@@ -3,15 +3,14 @@
 #![tactic(auto)]
 
 use meaning::LONGEST_CASE;
-use sheet::Sheeted;
 use std::io;
 
 // The buffer has room for every sheet, so the call is not refused.
 fn show(rt: &impl Print, file: &[u8]) -> io::Result<()> {
     let mut out = [0u8; sheet::ROOM];
     match sheet::sheet(file, &mut out) {
-        Sheeted::Length(k) => rt.write_all(&out[..k]),
-        Sheeted::Refused(_) => Ok(()),
+        Ok(k) => rt.write_all(&out[..k]),
+        Err(_) => Ok(()),
     }
 }
 
@@ -19,8 +18,11 @@ fn show(rt: &impl Print, file: &[u8]) -> io::Result<()> {
 fn main(rt: HostRuntime) -> io::Result<()> {
     let mut file = [0u8; LONGEST_CASE + 1];
     match input::read_all(&mut rt.reader(), &mut file) {
-        Ok(k) => show(&rt, &file[..k])
-            .or_else(|error| input::fail(&rt, "stand: standard output", error)),
+        Ok(k) => show(&rt, &file[..k]).or_else(|error| input::fail(
+            &rt,
+            "stand: standard output",
+            error,
+        )),
         Err(failure) => input::fail(&rt, "stand: standard input", failure.error),
     }
 }

@@ -2,7 +2,6 @@
 // own. A polynomial has 1 to 65 coefficients, leading zeros allowed, and is printed up to its degree.
 ghost use Rattle.std.specs.Prelude.{◌≡◌, ◌<◌, length, IfOk};
 ghost use Rattle.algebra.specs.Field.{Prime};
-ghost use Rattle.poly.specs.Polynomial.{Good};
 
 use crate::{Failure, prime};
 use meaning::COEFFICIENTS;
@@ -12,29 +11,27 @@ use trial_lines::Line;
 // The polynomial of a group.
 fn parse(p: u8, line: Line, group: usize) -> Result<Polynomial, Failure>
     requires { Prime p }
-    ensures { IfOk result (λ f. Good p f) }
+    ensures { IfOk result (λ f. f.p ≡ p) }
 {
     let mut c = [0u8; COEFFICIENTS];
     if line.fill(group, &mut c)?.is_empty() {
         return Err(Failure::Refused);
     }
     match rows::first_bad(u32::from(p), &c) {
-        rows::Found::At(_) => Err(Failure::Refused),
-        rows::Found::Nothing => Ok(Polynomial::made(c, p, COEFFICIENTS - 1)),
+        Some(_) => Err(Failure::Refused),
+        None => Ok(Polynomial::made(c, p, COEFFICIENTS - 1)),
     }
 }
 
 // The polynomial behind the line's prime, modulo that prime.
-fn first(line: Line) -> Result<Polynomial, Failure>
-    ensures { IfOk result (λ f. Good f.p f) }
-{
+fn first(line: Line) -> Result<Polynomial, Failure> {
     let p = prime(line)?;
     parse(p, line, 1)
 }
 
 // The two polynomials behind the line's prime, modulo that prime.
 fn both(line: Line) -> Result<(Polynomial, Polynomial), Failure>
-    ensures { IfOk result (λ r. Good r.0.p r.0 × Good r.0.p r.1) }
+    ensures { IfOk result (λ r. r.1.p ≡ r.0.p) }
 {
     let f = first(line)?;
     let g = parse(f.p, line, 2)?;
@@ -42,9 +39,7 @@ fn both(line: Line) -> Result<(Polynomial, Polynomial), Failure>
 }
 
 // The coefficients up to the degree.
-fn show(rt: &impl Print, f: Polynomial) -> Result<(), Failure>
-    requires { Good f.p f }
-{
+fn show(rt: &impl Print, f: Polynomial) -> Result<(), Failure> {
     let c = f.c;
     Ok(trial_lines::print_list(rt, &c[..=f.deg])?)
 }

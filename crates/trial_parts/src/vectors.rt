@@ -8,8 +8,8 @@ pub fn bad(rt: &impl Print, line: Line) -> Result<(), Failure> {
     let mut s = [0u8; MATRIX_ROOM];
     let s = line.fill(1, &mut s)?;
     match rows::first_bad(line.number(0), s) {
-        rows::Found::At(i) => print!(rt; " {i}")?,
-        rows::Found::Nothing => print!(rt; " none")?,
+        Some(i) => print!(rt; " {i}")?,
+        None => print!(rt; " none")?,
     }
     Ok(())
 }

@@ -5,7 +5,6 @@
 ghost use Rattle.std.specs.Prelude.{◌+◌, ◌<◌, ◌≤◌, ◌^◌, length, IfOk, IfSome};
 
 use meaning::LONGEST_CASE;
-use sheet::Sheeted;
 use std::env::{Env, FillError};
 use std::rt::Files;
 use std::{fs, io, str};
@@ -51,14 +50,14 @@ fn load(rt: &(impl Files + Eprint), name: &str, buf: &mut [u8]) -> io::Result<Op
 fn judge(rt: &impl Print, file: &[u8], stored: &[u8]) -> io::Result<()> {
     let mut out = [0u8; sheet::ROOM];
     match sheet::sheet(file, &mut out) {
-        Sheeted::Length(k) => {
+        Ok(k) => {
             if &out[..k] == stored {
                 println!(rt; " same")
             } else {
                 println!(rt; " differs")
             }
         }
-        Sheeted::Refused(_) => println!(rt; " refused"),
+        Err(_) => println!(rt; " refused"),
     }
 }
 
@@ -66,7 +65,10 @@ fn judge(rt: &impl Print, file: &[u8], stored: &[u8]) -> io::Result<()> {
 fn judge_text(rt: &impl Print, text: &[u8], stored: &[u8]) -> io::Result<()> {
     let mut case = [0u8; LONGEST_CASE];
     match design::make(text, &mut case) {
-        Ok(Ok(k)) => judge(rt, &case[..k], stored),
+        Ok(Ok(k)) => match case.get(..k) {
+            Some(case) => judge(rt, case, stored),
+            None => Ok(()),
+        },
         Ok(Err(_)) => println!(rt; " refused"),
         Err(_) => println!(rt; " wrong"),
     }
