@@ -2,7 +2,6 @@
 -- and its first n + 1 coefficients are put to the front of the buffer. Assumes nothing.
 use mathlib.Core.Path.{sym}
 use native.Mathlib.Omega.{arith}
-use lib.ListN.{replicate}
 use Rattle.meaning.proofs.Called.{given_by}
 use Rattle.spin.proofs.Laws.{before_empty, spinned_order}
 use Rattle.calls.proofs.Laws.{order_told, order_written}
@@ -12,7 +11,7 @@ pub spin-f-requires-clause-before : goal.spin-f-requires-clause-before
 spin-f-requires-clause-before c =
     let x = c.args in
     let S = order_told _ _ _ _ _ c.in_ok-of_order.ensures in
-    before_empty x.p x.n x.m.now (replicate 12480 0) (omega arith)
+    before_empty x.p x.n x.m.now _ (omega arith)
 
 pub returns : goal.returns
 returns c =
