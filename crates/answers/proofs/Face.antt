@@ -14,7 +14,8 @@
 use mathlib.Core.Path.{◌≡◌, refl, sym, ap, ap₂, ◌∙◌}
 use mathlib.Core.Bool.{Bool, true, false, cond}
 use mathlib.Core.List.{List, [], ◌∷◌}
-use mathlib.Core.Option.{some, none-ne-some, some-injective}
+use Rattle.std.specs.Prelude.{Some}
+use Rattle.std.proofs.lemmas.Option.{none-some, same_Some}
 use Prim.Native.Nat.{ℕ, zero, suc}
 use native.Mathlib.Omega.{arith}
 use lib.Dec.{eqb}
@@ -89,22 +90,22 @@ inverse_in-only x y e = go (eqb x no_inverse) (eqb y no_inverse) refl refl
   where
     go : (s t : Bool) → eqb x no_inverse ≡ s → eqb y no_inverse ≡ t → x ≡ y
     go true true a b = eqb-true x no_inverse a ∙ sym (eqb-true y no_inverse b)
-    go true false a b = absurd (none-ne-some y (rw (a, b) at e))
-    go false true a b = absurd (none-ne-some x (sym (rw (a, b) at e)))
-    go false false a b = some-injective x y (rw (a, b) at e)
+    go true false a b = absurd (none-some y (rw (a, b) at e))
+    go false true a b = absurd (none-some x (sym (rw (a, b) at e)))
+    go false false a b = same_Some x y (rw (a, b) at e)
 
-pub inverse_in_some : (x b : ℕ) → inverse_in x ≡ some b → x ≡ b
+pub inverse_in_some : (x b : ℕ) → inverse_in x ≡ Some b → x ≡ b
 inverse_in_some x b e = go (eqb x no_inverse) refl
   where
     go : (s : Bool) → eqb x no_inverse ≡ s → x ≡ b
-    go true a = absurd (none-ne-some b (rw a at e))
-    go false a = some-injective x b (rw a at e)
+    go true a = absurd (none-some b (rw a at e))
+    go false a = same_Some x b (rw a at e)
 
 period_only : (t u : ℕ) → period_in t ≡ period_in u → t ≡ u
 period_only zero zero e = refl
-period_only zero (suc u) e = absurd (none-ne-some (suc u) e)
-period_only (suc t) zero e = absurd (none-ne-some (suc t) (sym e))
-period_only (suc t) (suc u) e = some-injective _ _ e
+period_only zero (suc u) e = absurd (none-some (suc u) e)
+period_only (suc t) zero e = absurd (none-some (suc t) (sym e))
+period_only (suc t) (suc u) e = same_Some _ _ e
 
 standing_only : (b d : Bool) → standing_in b ≡ standing_in d → b ≡ d
 standing_only true true e = refl

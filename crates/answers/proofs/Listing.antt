@@ -3,7 +3,7 @@
 --   empty_prints      an empty file prints REFUSED 0, and nothing else
 -- Assumes nothing.
 use mathlib.Core.Path.{◌≡◌, refl, sym, ap, subst, ◌∙◌}
-use mathlib.Core.Option.{Option, none, some}
+use Rattle.std.specs.Prelude.{Option, None, Some}
 use mathlib.Core.Bool.{Bool, false, true≢false}
 use mathlib.Core.List.{List, [], ◌∷◌, map, flatten}
 use Prim.Native.Nat.{ℕ, ◌<◌, ◌≤◌}
@@ -79,11 +79,11 @@ listings_well =
     let one_none = pair_of 1 0 (omega arith) (omega arith) in
     let none-two = pair_of 0 2 (omega arith) (omega arith) in
     let two_none = pair_of 2 0 (omega arith) (omega arith) in (
-      well _ _ none tt refl (none-one, (two_none, tt)) (omega arith) (one_none, tt),
+      well _ _ None tt refl (none-one, (two_none, tt)) (omega arith) (one_none, tt),
       (
-        well _ _ (some (0, 9)) (omega arith, omega arith) refl (one_none, (none-two, tt)) (omega arith) (one_none, (one_none, tt)),
+        well _ _ (Some (0, 9)) (omega arith, omega arith) refl (one_none, (none-two, tt)) (omega arith) (one_none, (one_none, tt)),
         (
-          well _ _ (some (0, 9)) (omega arith, omega arith) refl (one_none, (none-two, tt)) (omega arith) (one_none, (none-one, tt)),
+          well _ _ (Some (0, 9)) (omega arith, omega arith) refl (one_none, (none-two, tt)) (omega arith) (one_none, (none-one, tt)),
           tt,
         ),
       ),

@@ -1,5 +1,5 @@
 -- What a refusal says (02, #102), of what a C or a Rust program gets: the numbers of a refused call are those of a refusal that is explained. Of the
--- code's own answers the same is `order_explained` of promises and its like, as they stand: `ordered_of (Refused r)` is `refused (as_refusal r)`.
+-- code's own answers the same is `order_explained` of promises and its like, as they stand: `answer_of (Err r)` is `refused (as_refusal r)`.
 --   read_refused   where the number is not 0, an answer is read as its refusal
 --   face_inverse_explained, face_order_explained, face_image_explained, face_stand_explained, face_chain_explained, face_period_explained,
 --   face_write_explained

@@ -3,18 +3,17 @@
 --   reason_in q     the reason that a refusal of the calls has
 --   reason_only    so a reason is known by its refusal
 --   refused_only, given_only   a refused answer is known by its reason's refusal, a result by what is given
---   given_some, given_none     of a result that may be none: by its number, and none is no number
 --   counts_path, given_counts   what a stand counts is known by its fields, also where it is given with a standing and a witness
 --   proved_short   the two standings differ
---   inverted_only, ordered_only, imaged_only, stood_only, chained-only, perioded_only, written-only
---                  answers with the same number or values are the same
+--   answer_only    answers with the same number or result are the same
+--   outcome_only, stood_only   and so are a stand's
 --   inverse_once, order_once, image_once, stand_once, chain_once, period_once, write_once
 --                  any two permitted answers and buffer contents are the same
 -- Assumes nothing.
 use mathlib.Core.Path.{◌≡◌, refl, sym, ap, ap₂, ◌∙◌}
 use mathlib.Core.Bool.{cond}
 use mathlib.Core.List.{List}
-use mathlib.Core.Option.{Option, none, some, none-ne-some, some-injective}
+use Rattle.std.specs.Prelude.{Option, Result, Ok, Err}
 use Prim.Native.Nat.{ℕ}
 use native.Mathlib.Omega.{arith}
 use lib.Dec.{eqb}
@@ -24,33 +23,21 @@ use Rattle.meaning.specs.Calls.{Answer, refused, given, InverseCall, OrderCall, 
 use Rattle.meaning.specs.Writing.{WriteCall}
 use Rattle.meaning.proofs.Called.{refused_given}
 use Rattle.promises.proofs.Calls.{inverse_unique, order_unique, image_unique, stand_unique, chain_unique, period_unique, write_unique}
-use Rattle.reasons.specs.Reasons.{as_refusal}
+use Rattle.reasons.specs.Reasons.{as_refusal, answer_of}
 use Rattle.reasons.specs.declared.Reason.{Reason}
 use Rattle.reasons.specs.declared.Reason.TheVariants as reason
-use Rattle.calls.specs.Answers.{inverted_of, ordered_of, imaged_of, counted_as, stood_of, chained_of, perioded_of}
+use Rattle.calls.specs.Answers.{counted_as, outcome_of, stood_of}
 use Rattle.calls.specs.declared.Counts.{Counts}
-use Rattle.calls.specs.declared.Inverted.{Inverted}
-use Rattle.calls.specs.declared.Inverted.TheVariants as inverted
-use Rattle.calls.specs.declared.Ordered.{Ordered}
-use Rattle.calls.specs.declared.Ordered.TheVariants as ordered
-use Rattle.calls.specs.declared.Imaged.{Imaged}
-use Rattle.calls.specs.declared.Imaged.TheVariants as imaged
 use Rattle.calls.specs.declared.Stood.{Stood}
 use Rattle.calls.specs.declared.Stood.TheVariants as stood
-use Rattle.calls.specs.declared.Chained.{Chained}
-use Rattle.calls.specs.declared.Chained.TheVariants as chained
-use Rattle.calls.specs.declared.Perioded.{Perioded}
-use Rattle.calls.specs.declared.Perioded.TheVariants as perioded
-use Rattle.writer.specs.Answers.{written_of}
-use Rattle.writer.specs.declared.Written.{Written}
-use Rattle.writer.specs.declared.Written.TheVariants as written
 
 -- a number that is no reason's is read as some reason: only refusals that the code makes are read back
 reason_in : Refusal → Reason
 reason_in (alone k) =
     cond (eqb k 1) reason.NoPrime (cond (eqb k 2) reason.NoSize (cond (eqb k 3) reason.NoMatrix
     (cond (eqb k 4) reason.NoRows (cond (eqb k 7) reason.NoPolynomial (cond (eqb k 9) reason.NoAllowance reason.NoRoom)))))
-reason_in (at k r c) = cond (eqb k 5) (reason.MatrixEntry r c) (cond (eqb k 10) (reason.RowEntry r c) (reason.Coefficient c))
+reason_in (at k r c) = cond (eqb k 5) (reason.MatrixEntry (record { row = r; column = c }))
+    (cond (eqb k 10) (reason.RowEntry (record { row = r; column = c })) (reason.Coefficient c))
 
 reason_read : (x : Reason) → reason_in (as_refusal x) ≡ x
 unfolding reason_in
@@ -59,8 +46,8 @@ reason_read reason.NoSize = refl
 reason_read reason.NoMatrix = refl
 reason_read reason.NoRows = refl
 reason_read reason.NoPolynomial = refl
-reason_read (reason.MatrixEntry r c) = refl
-reason_read (reason.RowEntry r c) = refl
+reason_read (reason.MatrixEntry c) = refl
+reason_read (reason.RowEntry c) = refl
 reason_read (reason.Coefficient c) = refl
 reason_read reason.NoAllowance = refl
 reason_read reason.NoRoom = refl
@@ -77,34 +64,11 @@ refused_only A x y e = reason_only x y (refusal_only A (as_refusal x) (as_refusa
 pub given_only : {A : Type 0} (r s : A) → given r ≡ given s → r ≡ s
 given_only r s e = cc
 
-given_some : (a b : ℕ) → given (some a) ≡ given (some b) → a ≡ b
-given_some a b e = some-injective a b (given_only (some a) (some b) e)
-
-given_none : (b : ℕ) → ¬ (given none ≡ given (some b))
-given_none b e = none-ne-some b (given_only none (some b) e)
-
-pub inverted_only : (r s : Inverted) → inverted_of r ≡ inverted_of s → r ≡ s
-inverted_only (inverted.Inverse a) (inverted.Inverse b) e = ap inverted.Inverse (given_some a b e)
-inverted_only (inverted.Inverse a) inverted.None e = absurd (given_none a (sym e))
-inverted_only (inverted.Inverse a) (inverted.Refused k) e = absurd (refused_given (as_refusal k) (some a) (sym e))
-inverted_only inverted.None (inverted.Inverse b) e = absurd (given_none b e)
-inverted_only inverted.None inverted.None e = refl
-inverted_only inverted.None (inverted.Refused k) e = absurd (refused_given (as_refusal k) none (sym e))
-inverted_only (inverted.Refused k) (inverted.Inverse b) e = absurd (refused_given (as_refusal k) (some b) e)
-inverted_only (inverted.Refused k) inverted.None e = absurd (refused_given (as_refusal k) none e)
-inverted_only (inverted.Refused k) (inverted.Refused j) e = ap inverted.Refused (refused_only (Option ℕ) k j e)
-
-ordered_only : (r s : Ordered) → ordered_of r ≡ ordered_of s → r ≡ s
-ordered_only (ordered.Degree a) (ordered.Degree b) e = ap ordered.Degree (given_only a b e)
-ordered_only (ordered.Degree a) (ordered.Refused k) e = absurd (refused_given (as_refusal k) a (sym e))
-ordered_only (ordered.Refused k) (ordered.Degree b) e = absurd (refused_given (as_refusal k) b e)
-ordered_only (ordered.Refused k) (ordered.Refused j) e = ap ordered.Refused (refused_only ℕ k j e)
-
-imaged_only : (r s : Imaged) → imaged_of r ≡ imaged_of s → r ≡ s
-imaged_only imaged.Written imaged.Written e = refl
-imaged_only imaged.Written (imaged.Refused k) e = absurd (refused_given (as_refusal k) tt (sym e))
-imaged_only (imaged.Refused k) imaged.Written e = absurd (refused_given (as_refusal k) tt e)
-imaged_only (imaged.Refused k) (imaged.Refused j) e = ap imaged.Refused (refused_only (Unit {0}) k j e)
+pub answer_only : {A : Type 0} (r s : Result A Reason) → answer_of r ≡ answer_of s → r ≡ s
+answer_only (Ok a) (Ok b) e = ap Ok (given_only a b e)
+answer_only (Ok a) (Err k) e = absurd (refused_given (as_refusal k) a (sym e))
+answer_only (Err k) (Ok b) e = absurd (refused_given (as_refusal k) b e)
+answer_only {A} (Err k) (Err j) e = ap Err (refused_only A k j e)
 
 counts_path : (c d : Counts) → c.degree ≡ d.degree → c.taken ≡ d.taken → c.spent ≡ d.spent → c ≡ d
 counts_path c d a b q = λ i. record { degree = a i; taken = b i; spent = q i }
@@ -116,65 +80,41 @@ given_counts s t c d w u z = counts_path c d (ap (λ o. o.degree) z) (ap (λ o. 
 pub proved_short : ¬ (proved ≡ short)
 proved_short e = let z : ◌≡◌ {A = ℕ} 0 1 = cc in omega arith
 
-pub stood_only : (r s : Stood) → stood_of r ≡ stood_of s → r ≡ s
-stood_only (stood.Proved c) (stood.Proved d) e = ap stood.Proved (given_counts proved proved c d 0 0 (given_only _ _ e))
-stood_only (stood.Proved c) (stood.Short d w) e = absurd (proved_short (ap (λ o. o.standing) (given_only _ _ e)))
-stood_only (stood.Proved c) (stood.Refused k) e = absurd (refused_given (as_refusal k) _ (sym e))
-stood_only (stood.Short c w) (stood.Proved d) e = absurd (proved_short (sym (ap (λ o. o.standing) (given_only _ _ e))))
-stood_only (stood.Short c w) (stood.Short d u) e =
-    let z = given_only _ _ e in
-    ap₂ stood.Short (given_counts short short c d w u z) (ap (λ o. o.witness) z)
-stood_only (stood.Short c w) (stood.Refused k) e = absurd (refused_given (as_refusal k) _ (sym e))
-stood_only (stood.Refused k) (stood.Proved d) e = absurd (refused_given (as_refusal k) _ e)
-stood_only (stood.Refused k) (stood.Short d u) e = absurd (refused_given (as_refusal k) _ e)
-stood_only (stood.Refused k) (stood.Refused j) e = ap stood.Refused (refused_only Outcome k j e)
+outcome_only : (r s : Stood) → outcome_of r ≡ outcome_of s → r ≡ s
+outcome_only (stood.Proved c) (stood.Proved d) e = ap stood.Proved (given_counts proved proved c d 0 0 e)
+outcome_only (stood.Proved c) (stood.Short d w) e = absurd (proved_short (ap (λ o. o.standing) e))
+outcome_only (stood.Short c w) (stood.Proved d) e = absurd (proved_short (sym (ap (λ o. o.standing) e)))
+outcome_only (stood.Short c w) (stood.Short d u) e = ap₂ stood.Short (given_counts short short c d w u e) (ap (λ o. o.witness) e)
 
-chained-only : (r s : Chained) → chained_of r ≡ chained_of s → r ≡ s
-chained-only (chained.Stages a) (chained.Stages b) e = ap chained.Stages (given_only a b e)
-chained-only (chained.Stages a) (chained.Refused k) e = absurd (refused_given (as_refusal k) a (sym e))
-chained-only (chained.Refused k) (chained.Stages b) e = absurd (refused_given (as_refusal k) b e)
-chained-only (chained.Refused k) (chained.Refused j) e = ap chained.Refused (refused_only ℕ k j e)
-
-perioded_only : (r s : Perioded) → perioded_of r ≡ perioded_of s → r ≡ s
-perioded_only (perioded.Least a) (perioded.Least b) e = ap perioded.Least (given_some a b e)
-perioded_only (perioded.Least a) perioded.Never e = absurd (given_none a (sym e))
-perioded_only (perioded.Least a) (perioded.Refused k) e = absurd (refused_given (as_refusal k) (some a) (sym e))
-perioded_only perioded.Never (perioded.Least b) e = absurd (given_none b e)
-perioded_only perioded.Never perioded.Never e = refl
-perioded_only perioded.Never (perioded.Refused k) e = absurd (refused_given (as_refusal k) none (sym e))
-perioded_only (perioded.Refused k) (perioded.Least b) e = absurd (refused_given (as_refusal k) (some b) e)
-perioded_only (perioded.Refused k) perioded.Never e = absurd (refused_given (as_refusal k) none e)
-perioded_only (perioded.Refused k) (perioded.Refused j) e = ap perioded.Refused (refused_only (Option ℕ) k j e)
-
-pub written-only : (r s : Written) → written_of r ≡ written_of s → r ≡ s
-written-only (written.Length a) (written.Length b) e = ap written.Length (given_only a b e)
-written-only (written.Length a) (written.Refused k) e = absurd (refused_given (as_refusal k) a (sym e))
-written-only (written.Refused k) (written.Length b) e = absurd (refused_given (as_refusal k) b e)
-written-only (written.Refused k) (written.Refused j) e = ap written.Refused (refused_only ℕ k j e)
+pub stood_only : (r s : Result Stood Reason) → stood_of r ≡ stood_of s → r ≡ s
+stood_only (Ok r) (Ok s) e = ap Ok (outcome_only r s (given_only _ _ e))
+stood_only (Ok r) (Err k) e = absurd (refused_given (as_refusal k) _ (sym e))
+stood_only (Err k) (Ok s) e = absurd (refused_given (as_refusal k) _ e)
+stood_only (Err k) (Err j) e = ap Err (refused_only Outcome k j e)
 
 -- the calls
-pub inverse_once : (r s : Inverted) {p a : ℕ} → InverseCall p a (inverted_of r) → InverseCall p a (inverted_of s) → r ≡ s
-inverse_once r s A B = inverted_only r s (inverse_unique A B)
+pub inverse_once : (r s : Result (Option ℕ) Reason) {p a : ℕ} → InverseCall p a (answer_of r) → InverseCall p a (answer_of s) → r ≡ s
+inverse_once r s A B = answer_only r s (inverse_unique A B)
 
-pub order_once : (r s : Ordered) {p n : ℕ} {m v old x y : List ℕ} → OrderCall p n m v old (ordered_of r) x → OrderCall p n m v old (ordered_of s) y
+pub order_once : (r s : Result ℕ Reason) {p n : ℕ} {m v old x y : List ℕ} → OrderCall p n m v old (answer_of r) x → OrderCall p n m v old (answer_of s) y
     → (r ≡ s) × (x ≡ y)
-order_once r s A B = let (e, f) = order_unique A B in (ordered_only r s e, f)
+order_once r s A B = let (e, f) = order_unique A B in (answer_only r s e, f)
 
-pub image_once : (r s : Imaged) (p n : ℕ) (m v f : List ℕ) {old x y : List ℕ} → ImageCall p n m v f old (imaged_of r) x
-    → ImageCall p n m v f old (imaged_of s) y → (r ≡ s) × (x ≡ y)
-image_once r s p n m v f A B = let (e, d) = image_unique p n m v f A B in (imaged_only r s e, d)
+pub image_once : (r s : Result (Unit {0}) Reason) (p n : ℕ) (m v f : List ℕ) {old x y : List ℕ} → ImageCall p n m v f old (answer_of r) x
+    → ImageCall p n m v f old (answer_of s) y → (r ≡ s) × (x ≡ y)
+image_once r s p n m v f A B = let (e, d) = image_unique p n m v f A B in (answer_only r s e, d)
 
-pub stand_once : (r s : Stood) {p n : ℕ} {m cs : List ℕ} {a : ℕ} {old x y : List ℕ × List ℕ} → StandCall p n m cs a old (stood_of r) x
+pub stand_once : (r s : Result Stood Reason) {p n : ℕ} {m cs : List ℕ} {a : ℕ} {old x y : List ℕ × List ℕ} → StandCall p n m cs a old (stood_of r) x
     → StandCall p n m cs a old (stood_of s) y → (r ≡ s) × (x ≡ y)
 stand_once r s A B = let (e, f) = stand_unique A B in (stood_only r s e, f)
 
-pub chain_once : (r s : Chained) {p n : ℕ} {m cs : List ℕ} {old x y : List ℕ × List ℕ} → ChainCall p n m cs old (chained_of r) x
-    → ChainCall p n m cs old (chained_of s) y → (r ≡ s) × (x ≡ y)
-chain_once r s A B = let (e, f) = chain_unique A B in (chained-only r s e, f)
+pub chain_once : (r s : Result ℕ Reason) {p n : ℕ} {m cs : List ℕ} {old x y : List ℕ × List ℕ} → ChainCall p n m cs old (answer_of r) x
+    → ChainCall p n m cs old (answer_of s) y → (r ≡ s) × (x ≡ y)
+chain_once r s A B = let (e, f) = chain_unique A B in (answer_only r s e, f)
 
-pub period_once : (r s : Perioded) (p n : ℕ) (m : List ℕ) → PeriodCall p n m (perioded_of r) → PeriodCall p n m (perioded_of s) → r ≡ s
-period_once r s p n m A B = perioded_only r s (period_unique p n m A B)
+pub period_once : (r s : Result (Option ℕ) Reason) (p n : ℕ) (m : List ℕ) → PeriodCall p n m (answer_of r) → PeriodCall p n m (answer_of s) → r ≡ s
+period_once r s p n m A B = answer_only r s (period_unique p n m A B)
 
-pub write_once : (r s : Written) (p n : ℕ) (m cs : List ℕ) (a : ℕ) {old x y : List ℕ} → WriteCall p n m cs a old (written_of r) x
-    → WriteCall p n m cs a old (written_of s) y → (r ≡ s) × (x ≡ y)
-write_once r s p n m cs a A B = let (e, f) = write_unique p n m cs a A B in (written-only r s e, f)
+pub write_once : (r s : Result ℕ Reason) (p n : ℕ) (m cs : List ℕ) (a : ℕ) {old x y : List ℕ} → WriteCall p n m cs a old (answer_of r) x
+    → WriteCall p n m cs a old (answer_of s) y → (r ≡ s) × (x ≡ y)
+write_once r s p n m cs a A B = let (e, f) = write_unique p n m cs a A B in (answer_only r s e, f)

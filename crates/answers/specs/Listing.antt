@@ -8,7 +8,7 @@
 --   listings       those
 -- Assumes nothing.
 use Rattle.std.specs.Prelude.{◌≡◌, List, [], ◌∷◌, ℕ}
-use Rattle.std.proofs.Math.Option.{Option, none, some}
+use Rattle.std.specs.Prelude.{Option, None, Some}
 use Prim.Native.String.{String}
 use Rattle.meaning.specs.Ascii.{ascii}
 use Rattle.meaning.specs.Case.{Case}
@@ -40,7 +40,7 @@ abbrev pub eighteen : Listing
 eighteen =
     record {
       file = 255 ∷ 70 ∷ 3 ∷ 2 ∷ 255 ∷ 82 ∷ 0 ∷ 1 ∷ 255 ∷ 82 ∷ 2 ∷ 0 ∷ 255 ∷ 67 ∷ 1 ∷ 0 ∷ 255 ∷ 69 ∷ [];
-      case = squares ((0 ∷ 1 ∷ []) ∷ (2 ∷ 0 ∷ []) ∷ []) ((1 ∷ 0 ∷ []) ∷ []) none;
+      case = squares ((0 ∷ 1 ∷ []) ∷ (2 ∷ 0 ∷ []) ∷ []) ((1 ∷ 0 ∷ []) ∷ []) None;
       print = "FIELD 3 2\nSTAND proved 1 2\nMINPOLY 1 0 1\nWITNESS none\nSTAGE 1 0 1\nCHAIN 1 0 1\nPERIOD 4\n";
       wrong =
           "FIELD 3 2\nSTAND proved 1 2\nDIVISOR 1 0 1\nWITNESS none\nSTAGE 1 0 1\nCHAIN 1 0 1\nPERIOD 4\n"
@@ -60,7 +60,7 @@ abbrev pub divided : Listing
 divided =
     record {
       file = 255 ∷ 70 ∷ 3 ∷ 2 ∷ 255 ∷ 65 ∷ 0 ∷ 9 ∷ 255 ∷ 82 ∷ 1 ∷ 0 ∷ 255 ∷ 82 ∷ 0 ∷ 2 ∷ 255 ∷ 67 ∷ 1 ∷ 0 ∷ 255 ∷ 67 ∷ 1 ∷ 0 ∷ 255 ∷ 69 ∷ [];
-      case = squares ((1 ∷ 0 ∷ []) ∷ (0 ∷ 2 ∷ []) ∷ []) ((1 ∷ 0 ∷ []) ∷ (1 ∷ 0 ∷ []) ∷ []) (some (0, 9));
+      case = squares ((1 ∷ 0 ∷ []) ∷ (0 ∷ 2 ∷ []) ∷ []) ((1 ∷ 0 ∷ []) ∷ (1 ∷ 0 ∷ []) ∷ []) (Some (0, 9));
       print = "FIELD 3 2\nSTAND short 2 2\nDIVISOR 2 1\nWITNESS 2 0 1\nSTAGE 2 1\nSTAGE 1 1\nCHAIN 2 0 1\nPERIOD 2\n";
       wrong =
           "FIELD 3 2\nSTAND short 2 2\nMINPOLY 2 1\nWITNESS 2 0 1\nSTAGE 2 1\nSTAGE 1 1\nCHAIN 2 0 1\nPERIOD 2\n"
@@ -78,7 +78,7 @@ abbrev pub proven : Listing
 proven =
     record {
       file = 255 ∷ 70 ∷ 3 ∷ 2 ∷ 255 ∷ 65 ∷ 0 ∷ 9 ∷ 255 ∷ 82 ∷ 1 ∷ 0 ∷ 255 ∷ 82 ∷ 0 ∷ 2 ∷ 255 ∷ 67 ∷ 1 ∷ 0 ∷ 255 ∷ 67 ∷ 0 ∷ 1 ∷ 255 ∷ 69 ∷ [];
-      case = squares ((1 ∷ 0 ∷ []) ∷ (0 ∷ 2 ∷ []) ∷ []) ((1 ∷ 0 ∷ []) ∷ (0 ∷ 1 ∷ []) ∷ []) (some (0, 9));
+      case = squares ((1 ∷ 0 ∷ []) ∷ (0 ∷ 2 ∷ []) ∷ []) ((1 ∷ 0 ∷ []) ∷ (0 ∷ 1 ∷ []) ∷ []) (Some (0, 9));
       print = "FIELD 3 2\nSTAND proved 2 2\nMINPOLY 2 0 1\nWITNESS none\nSTAGE 2 1\nSTAGE 1 1\nCHAIN 2 0 1\nPERIOD 2\n";
       wrong =
           "FIELD 3 2\nSTAND proved 2 2\nMINPOLY 1 0 2\nWITNESS none\nSTAGE 2 1\nSTAGE 1 1\nCHAIN 2 0 1\nPERIOD 2\n"

@@ -1,34 +1,16 @@
 // The calls, as a customer makes them. Every call answers for all inputs: what is wrong is refused with its reason, in the order of the refusal table,
 // and a refused call changes no byte lent to it.
-#![tactic(auto)]
+#![tactic(auto, using(crate::proofs::Laws::told))]
 
 ghost use Rattle.std.specs.Prelude.{◌≡◌, ◌≤◌, length};
 ghost use Rattle.meaning.specs.Bytes.{write};
 ghost use Rattle.meaning.specs.Calls.{InverseCall, OrderCall, ImageCall, StandCall, ChainCall, PeriodCall};
-ghost use Rattle.calls.specs.Answers.{inverted_of, ordered_of, imaged_of, stood_of, chained_of, perioded_of};
+ghost use Rattle.reasons.specs.Reasons.{answer_of};
+ghost use Rattle.calls.specs.Answers.{stood_of};
 
-use period::Returns;
-use reasons::{Checked, Reason};
-
-// 0 has no inverse.
-#[derive(Clone, Copy)]
-pub enum Inverted {
-    Inverse(u8),
-    None,
-    Refused(Reason),
-}
-
-#[derive(Clone, Copy)]
-pub enum Ordered {
-    Degree(usize),
-    Refused(Reason),
-}
-
-#[derive(Clone, Copy)]
-pub enum Imaged {
-    Written,
-    Refused(Reason),
-}
+use matrix::Machine;
+use meaning::WIDEST;
+use reasons::Reason;
 
 // What a stand counts: the polynomial's degree, the rows taken, the products spent.
 #[derive(Clone, Copy)]
@@ -43,68 +25,47 @@ pub struct Counts {
 pub enum Stood {
     Proved(Counts),
     Short(Counts, usize),
-    Refused(Reason),
-}
-
-#[derive(Clone, Copy)]
-pub enum Chained {
-    Stages(usize),
-    Refused(Reason),
-}
-
-#[derive(Clone, Copy)]
-pub enum Perioded {
-    Least(u32),
-    Never,
-    Refused(Reason),
 }
 
 // The bytes of `from` at the front of a buffer.
+#[tactic(auto, unfolding(meaning::specs::Bytes::write))]
 fn put(from: &[u8], out: &mut [u8])
     requires { length from.now ≤ length out.old }
     ensures { out.new ≡ write from.now out.old }
 {
-    let n = from.len();
-    rows::copy(from, &mut out[..n]);
+    out[..from.len()].copy_from_slice(from);
 }
 
 // The inverse of a scalar modulo p: the number from 1 to p − 1 that times the scalar is 1; none for 0.
-pub fn inverse(p: u32, a: u32) -> Inverted
-    ensures { InverseCall p a (inverted_of result) }
+pub fn inverse(p: u32, a: u32) -> Result<Option<u8>, Reason>
+    ensures { InverseCall p a (answer_of result) }
 {
-    if let Checked::Refused(reason) = refusals::of_inverse(p, a) {
-        return Inverted::Refused(reason);
-    }
+    refusals::of_inverse(p, a)?;
     if a == 0 {
-        return Inverted::None;
+        return Ok(None);
     }
-    Inverted::Inverse(scalar::inverse(p as u8, a as u8))
+    Ok(Some(scalar::inverse(p as u8, a as u8)))
 }
 
 // The order of one row: the monic polynomial of least degree that sends it to zero, its n + 1 coefficients at the front of `out`.
-pub fn order(p: u32, n: usize, m: &[u8], v: &[u8], out: &mut [u8]) -> Ordered
-    ensures { OrderCall p n m.now v.now out.old (ordered_of result) out.new }
+pub fn order(p: u32, n: usize, m: &[u8], v: &[u8], out: &mut [u8]) -> Result<usize, Reason>
+    ensures { OrderCall p n m.now v.now out.old (answer_of result) out.new }
 {
-    if let Checked::Refused(reason) = refusals::of_order(p, n, m, v, out) {
-        return Ordered::Refused(reason);
-    }
-    let mut kept_rows = [0u8; slots::KEPT_ROOM];
-    let f = spin::spin(p as u8, n, m, v, &mut kept_rows, 0);
-    let coefficients = f.c;
-    let count = n + 1;
-    put(&coefficients[..count], out);
-    Ordered::Degree(f.deg)
+    refusals::of_order(p, n, m, v, out)?;
+    let machine = Machine { p: p as u8, n, m };
+    let mut kept_rows = [slots::BLANK; WIDEST];
+    let f = spin::spin(&machine, v, &mut kept_rows, 0);
+    put(&f.c[..n + 1], out);
+    Ok(f.deg)
 }
 
 // v·f(M), its n entries at the front of `out`.
-pub fn image(p: u32, n: usize, m: &[u8], v: &[u8], f: &[u8], out: &mut [u8]) -> Imaged
-    ensures { ImageCall p n m.now v.now f.now out.old (imaged_of result) out.new }
+pub fn image(p: u32, n: usize, m: &[u8], v: &[u8], f: &[u8], out: &mut [u8]) -> Result<(), Reason>
+    ensures { ImageCall p n m.now v.now f.now out.old (answer_of result) out.new }
 {
-    if let Checked::Refused(reason) = refusals::of_image(p, n, m, v, f, out) {
-        return Imaged::Refused(reason);
-    }
+    refusals::of_image(p, n, m, v, f, out)?;
     matrix::image(p as u8, m, f, v, &mut out[..n]);
-    Imaged::Written
+    Ok(())
 }
 
 // The stand: rows are taken from the front while the allowance pays for their products, and the least common multiple of their orders is marked
@@ -118,31 +79,27 @@ pub fn stand(
     allowance: u32,
     poly: &mut [u8],
     image: &mut [u8],
-) -> Stood
+) -> Result<Stood, Reason>
     ensures { StandCall p n m.now cs.now allowance (poly.old, image.old) (stood_of result) (poly.new, image.new) }
 {
-    if let Checked::Refused(reason) = refusals::of_stand(p, n, m, cs, poly, image) {
-        return Stood::Refused(reason);
-    }
-    let field = p as u8;
-    let mut kept_rows = [0u8; slots::KEPT_ROOM];
-    let gathered = taken::take_rows(field, n, m, cs, allowance, &mut kept_rows);
+    refusals::of_stand(p, n, m, cs, poly, image)?;
+    let machine = Machine { p: p as u8, n, m };
+    let mut kept_rows = [slots::BLANK; WIDEST];
+    let gathered = taken::take_rows(&machine, cs, allowance, &mut kept_rows);
     let f = gathered.poly;
-    let witness = witness::witness(field, n, m, f, &mut kept_rows, gathered.known);
-    let row = witness::witness_row(field, n, m, f, witness);
-    let coefficients = f.c;
-    let places = n + 1;
-    put(&coefficients[..places], poly);
+    let witness = witness::witness(&machine, f, &mut kept_rows, gathered.known);
+    let row = witness::witness_row(&machine, f, witness);
+    put(&f.c[..n + 1], poly);
     put(&row[..n], image);
     let counts = Counts {
         degree: f.deg,
         taken: gathered.taken,
         spent: gathered.spent,
     };
-    if witness == 0 {
-        return Stood::Proved(counts);
+    match witness {
+        None => Ok(Stood::Proved(counts)),
+        Some(i) => Ok(Stood::Short(counts, i)),
     }
-    Stood::Short(counts, witness)
 }
 
 // The chain of relative orders over the candidates in order, then the unit rows in order. The n + 1 coefficients of the stages' product go to the
@@ -154,32 +111,21 @@ pub fn chain(
     cs: &[u8],
     product: &mut [u8],
     stages: &mut [u8],
-) -> Chained
-    ensures { ChainCall p n m.now cs.now (product.old, stages.old) (chained_of result) (product.new, stages.new) }
+) -> Result<usize, Reason>
+    ensures { ChainCall p n m.now cs.now (product.old, stages.old) (answer_of result) (product.new, stages.new) }
 {
-    if let Checked::Refused(reason) = refusals::of_chain(p, n, m, cs, product, stages) {
-        return Chained::Refused(reason);
-    }
-    let links = stages::link(p as u8, n, m, cs);
-    let f = links.product;
-    let coefficients = f.c;
-    let record = links.record;
-    let size = n + 1;
-    let bytes = 2 * n;
-    put(&coefficients[..size], product);
-    put(&record[..bytes], stages);
-    Chained::Stages(links.stages)
+    refusals::of_chain(p, n, m, cs, product, stages)?;
+    let machine = Machine { p: p as u8, n, m };
+    let links = stages::link(&machine, cs);
+    put(&links.product.c[..n + 1], product);
+    put(&links.record[..2 * n], stages);
+    Ok(links.stages)
 }
 
 // The least t from 1 to 65,536 with the t-th power of M equal to the identity, or that there is none.
-pub fn period(p: u32, n: usize, m: &[u8]) -> Perioded
-    ensures { PeriodCall p n m.now (perioded_of result) }
+pub fn period(p: u32, n: usize, m: &[u8]) -> Result<Option<u32>, Reason>
+    ensures { PeriodCall p n m.now (answer_of result) }
 {
-    if let Checked::Refused(reason) = refusals::of_period(p, n, m) {
-        return Perioded::Refused(reason);
-    }
-    match period::period(p as u8, n, m) {
-        Returns::Least(t) => Perioded::Least(t),
-        Returns::Never => Perioded::Never,
-    }
+    refusals::of_period(p, n, m)?;
+    Ok(period::period(p as u8, n, m))
 }

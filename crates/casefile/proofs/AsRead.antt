@@ -4,7 +4,7 @@
 -- Assumes nothing.
 use mathlib.Core.Path.{◌≡◌, subst}
 use mathlib.Core.List.{List}
-use mathlib.Core.Option.{some}
+use Rattle.std.specs.Prelude.{Some}
 use Prim.Native.Nat.{ℕ}
 use lib.ListN.{length}
 use Rattle.meaning.specs.Bytes.{padded}
@@ -15,7 +15,7 @@ use Rattle.casefile.specs.Reading.{values_of, ReadIs, reads, refuses}
 use Rattle.casefile.specs.declared.Contents.{Contents}
 
 pub record ReadAs (c : Case) (r : Contents) : Type 0 where
-  pub values : values_of r.answer ≡ some (c.p, c.n, allowance_of c, length c.candidates)
+  pub values : values_of r.answer ≡ Some (c.p, c.n, allowance_of c, length c.candidates)
   pub matrix : r.matrix ≡ padded matrix_room (matrix_bytes c)
   pub candidates : r.candidates ≡ padded candidate_room (candidate_bytes c)
 

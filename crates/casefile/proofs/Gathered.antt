@@ -7,7 +7,7 @@
 -- Assumes nothing.
 use mathlib.Core.Path.{◌≡◌, refl, sym, ap, subst, ◌∙◌}
 use mathlib.Core.List.{List, [], ◌∷◌, ◌++◌, map, flatten, append_assoc, append-nil}
-use mathlib.Core.Option.{Option, none, some}
+use Rattle.std.specs.Prelude.{Option, None, Some}
 use Prim.Native.Nat.{ℕ, suc, ◌*◌, ◌<◌, ◌≤◌}
 use native.Mathlib.Nat.{mul-le-mul, suc-mul}
 use native.Mathlib.Omega.{arith}
@@ -56,8 +56,8 @@ gathered_parts : (p n : ℕ) (a : Option (ℕ × ℕ)) (ms cs : List (List ℕ))
     → gathered (field p n ∷ (allow_record a ++ (map row ms ++ (map candidate cs ++ (end ∷ [])))))
     ≡ record { p = p; n = n; allowance = a; matrix = ms; candidates = cs }
 unfolding noted_all
-gathered_parts p n none ms cs = noted_all-tail p n none ms cs
-gathered_parts p n (some a) ms cs = noted_all-tail p n (some a) ms cs
+gathered_parts p n None ms cs = noted_all-tail p n None ms cs
+gathered_parts p n (Some a) ms cs = noted_all-tail p n (Some a) ms cs
 
 pub gathered_case : (c : Case) → gathered (records c) ≡ c
 unfolding records

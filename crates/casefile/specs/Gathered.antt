@@ -10,7 +10,7 @@
 --   Noted s r v m cs v' m' cs'   where it does, v', m' and cs' hold that record too
 -- Assumes nothing.
 use Rattle.std.specs.Prelude.{◌≡◌, List, [], ◌∷◌, ◌++◌, ℕ, ◌+◌, ◌*◌, ◌<◌, ◌≤◌, length}
-use Rattle.std.proofs.Math.Option.{none, some}
+use Rattle.std.specs.Prelude.{None, Some}
 use Rattle.meaning.specs.Bytes.{padded}
 use Rattle.meaning.specs.Bounds.{most_candidates, widest, matrix_room, candidate_room}
 use Rattle.meaning.specs.Case.{Record, Case, allowance_of, matrix_bytes, candidate_bytes}
@@ -20,11 +20,11 @@ use Rattle.casefile.specs.declared.Numbers.{Numbers}
 use Rattle.reader.specs.Step.{record_of}
 
 abbrev pub no_values : Case
-no_values = record { p = 0; n = 0; allowance = none; matrix = []; candidates = [] }
+no_values = record { p = 0; n = 0; allowance = None; matrix = []; candidates = [] }
 
 abbrev pub noted : Case → Record → Case
 noted g (field p n) = record { p = p; n = n; allowance = g.allowance; matrix = g.matrix; candidates = g.candidates }
-noted g (allow high low) = record { p = g.p; n = g.n; allowance = some (high, low); matrix = g.matrix; candidates = g.candidates }
+noted g (allow high low) = record { p = g.p; n = g.n; allowance = Some (high, low); matrix = g.matrix; candidates = g.candidates }
 noted g (row l) = record { p = g.p; n = g.n; allowance = g.allowance; matrix = g.matrix ++ (l ∷ []); candidates = g.candidates }
 noted g (candidate l) = record { p = g.p; n = g.n; allowance = g.allowance; matrix = g.matrix; candidates = g.candidates ++ (l ∷ []) }
 noted g end = g
@@ -37,11 +37,11 @@ abbrev pub gathered : List Record → Case
 gathered xs = noted_all no_values xs
 
 pub record Stored (g : Case) (v : Numbers) (m cs : List ℕ) : Type 0 where
-  pub modulus : v.p ≡ g.p
-  pub order : v.n ≡ g.n
-  pub allowance : v.allowance ≡ allowance_of g
+  pub modulus : v.case.p ≡ g.p
+  pub order : v.case.n ≡ g.n
+  pub allowance : v.case.allowance ≡ allowance_of g
   pub rows : v.rows ≡ length g.matrix
-  pub count : v.count ≡ length g.candidates
+  pub count : v.case.count ≡ length g.candidates
   pub matrix : m ≡ padded matrix_room (matrix_bytes g)
   pub candidates : cs ≡ padded candidate_room (candidate_bytes g)
 
@@ -60,7 +60,7 @@ RoomFor g end = Unit {0}
 pub record Noting (s : List ℕ) (r : Stepped) (v : Numbers) (m cs : List ℕ) : Type 0 where
   pub values : Case
   pub next : Record
-  pub hands : record_of s r ≡ some next
+  pub hands : record_of s r ≡ Some next
   pub holds : Stored values v m cs
   pub room : RoomFor values next
   pub matrix_size : length m ≡ matrix_room

@@ -7,53 +7,34 @@ ghost use Rattle.casefile.specs.Gathered.{Noting, Noted};
 ghost use Rattle.casefile.specs.Reading.{ReadIs};
 
 use meaning::{CANDIDATE_ROOM, MATRIX_ROOM, RADIX};
-use reader::{Step, Stepped};
+use reader::{Reader, Step, Stepped};
 
 // The allowance without an A record.
 const DEFAULT_ALLOWANCE: u32 = 8192;
 
-// What the reader answers of a whole file.
+// The numbers of a well-formed case; count is the number of candidates.
 #[derive(Clone, Copy)]
-pub enum Reading {
-    // The numbers of a well-formed case; count is the number of candidates.
-    Case {
-        p: u32,
-        n: usize,
-        allowance: u32,
-        count: usize,
-    },
-    // Number 8 with the place.
-    Refused(usize),
+pub struct Case {
+    pub p: u32,
+    pub n: usize,
+    pub allowance: u32,
+    pub count: usize,
 }
 
-// The answer; the matrix, row after row, n·n bytes; the candidates, n bytes each. Zeros behind these, and zeros alone where the file is refused.
+// The numbers of the case, or the place of refusal 8; the matrix, row after row, n·n bytes; the candidates, n bytes each. Zeros behind these, and zeros
+// alone where the file is refused: what the arrays hold then is promised too, so they stand beside the answer and not in it.
 #[derive(Drop)]
 pub struct Contents {
-    pub answer: Reading,
+    pub answer: Result<Case, usize>,
     pub matrix: [u8; MATRIX_ROOM],
     pub candidates: [u8; CANDIDATE_ROOM],
 }
 
-// The numbers of the records so far: those of F and A, how many R and how many C there were.
+// What the records so far come to: the numbers of their case, and how many R there were.
 #[derive(Clone, Copy)]
 struct Numbers {
-    p: u32,
-    n: usize,
-    allowance: u32,
+    case: Case,
     rows: usize,
-    count: usize,
-}
-
-// The bytes of src go to dst from `at` on.
-fn put(dst: &mut [u8], at: usize, src: &[u8])
-    requires { at + length src.now ≤ length dst.old }
-    ensures { dst.new ≡ paste dst.old at src.now (length src.now) }
-{
-    let mut i = 0;
-    while i < src.len() {
-        dst[at + i] = src[i];
-        i += 1;
-    }
 }
 
 // One more record: its numbers go to those so far, its entries to the matrix m or to the candidates cs, behind those of the records before it, of which
@@ -62,45 +43,40 @@ fn note(s: &[u8], r: Stepped, known: Numbers, m: &mut [u8], cs: &mut [u8]) -> Nu
     requires { Noting s.now r known m.old cs.old }
     ensures { Noted s.now r known m.old cs.old result m.new cs.new }
 {
-    let step = r.step;
-    match step {
-        Step::Field { p, n } => Numbers {
-            p,
-            n,
-            allowance: known.allowance,
-            rows: known.rows,
-            count: known.count,
+    match r.step {
+        Ok(Step::Field { p, n }) => Numbers {
+            case: Case { p, n, ..known.case },
+            ..known
         },
-        Step::Allow { high, low } => {
-            let allowed = RADIX * (high as u32) + low as u32;
+        Ok(Step::Allow { high, low }) => {
+            let allowance = RADIX * u32::from(high) + u32::from(low);
             Numbers {
-                p: known.p,
-                n: known.n,
-                allowance: allowed,
-                rows: known.rows,
-                count: known.count,
+                case: Case {
+                    allowance,
+                    ..known.case
+                },
+                ..known
             }
         }
-        Step::Row => {
+        Ok(Step::Row) => {
             let row = reader::entries(s, r);
-            put(m, known.rows * row.len(), row);
+            let at = known.rows * row.len();
+            m[at..at + row.len()].copy_from_slice(row);
             Numbers {
-                p: known.p,
-                n: known.n,
-                allowance: known.allowance,
                 rows: known.rows + 1,
-                count: known.count,
+                ..known
             }
         }
-        Step::Candidate => {
+        Ok(Step::Candidate) => {
             let row = reader::entries(s, r);
-            put(cs, known.count * row.len(), row);
+            let at = known.case.count * row.len();
+            cs[at..at + row.len()].copy_from_slice(row);
             Numbers {
-                p: known.p,
-                n: known.n,
-                allowance: known.allowance,
-                rows: known.rows,
-                count: known.count + 1,
+                case: Case {
+                    count: known.case.count + 1,
+                    ..known.case
+                },
+                ..known
             }
         }
         _ => known,
@@ -114,41 +90,34 @@ pub fn read(s: &[u8]) -> Contents
     let mut matrix = [0u8; MATRIX_ROOM];
     let mut candidates = [0u8; CANDIDATE_ROOM];
     let mut known = Numbers {
-        p: 0,
-        n: 0,
-        allowance: DEFAULT_ALLOWANCE,
+        case: Case {
+            p: 0,
+            n: 0,
+            allowance: DEFAULT_ALLOWANCE,
+            count: 0,
+        },
         rows: 0,
-        count: 0,
     };
-    let mut at = reader::front();
+    let mut reader = Reader::new(s);
     loop {
-        let stepped = reader::step_from(s, at);
-        let step = stepped.step;
-        match step {
-            Step::Over => {
+        let stepped = reader.next();
+        let step = match stepped.step {
+            Ok(step) => step,
+            Err(place) => {
                 return Contents {
-                    answer: Reading::Case {
-                        p: known.p,
-                        n: known.n,
-                        allowance: known.allowance,
-                        count: known.count,
-                    },
-                    matrix,
-                    candidates,
-                };
-            }
-            Step::Refused(place) => {
-                return Contents {
-                    answer: Reading::Refused(place),
+                    answer: Err(place),
                     matrix: [0u8; MATRIX_ROOM],
                     candidates: [0u8; CANDIDATE_ROOM],
                 };
             }
-            _ => {
-                let more = note(s, stepped, known, &mut matrix, &mut candidates);
-                known = more;
-                at = stepped.next;
-            }
+        };
+        if let Step::Over = step {
+            return Contents {
+                answer: Ok(known.case),
+                matrix,
+                candidates,
+            };
         }
+        known = note(s, stepped, known, &mut matrix, &mut candidates);
     }
 }

@@ -1,37 +1,36 @@
 -- A design's text, byte by byte.
 --   separator_found, separator_turn, separator_end   the separator of what is left: its first byte, none yet, and there is no more
---   same_self, same_other   equal bytes are the same, others are not
---   mark_bytes         the byte-order mark
---   mark_taken, mark_none, mark_short   a text that begins with it, one that does not, and one that is too short
---   rest_end, rest_more   behind the end there are no pieces; before it, those of what follows
---   piece_at          a piece ends at the first byte b, or at the end
---   piece_last, piece_more   the pieces from a place on: one that ends with the text, one with others behind it
---   return_none, return_cut, return_kept   a line with no bytes, with a carriage return at its end, with another byte there
---   UsedTo s l e      what is used of the line l, with the separator s, comes before the place e
---   used_start, used_turn   with no separator taken off, with one more
---   used_found, used_end   no more are to be taken off: another byte is last, or none is left
---   letter_told       the letter, by which word it is
---   capped_small, capped_large, capped_most   a number that is small enough, one that is not, and the bound of both
---   digit_range       a digit is 48 to 57
---   number_none       an empty cell
---   number_start, number_turn, number_other, number_end   the digits of a cell: all, one more, a byte that is none, no more
+--   same_equal         std's test of equal bytes
+--   mark_stripped, return_stripped   a text without the mark at its front, a line without the carriage return at its end, as std strips them
+--   trimmed s l        the line l without the separators s at its end
+--   trimmed_none, trimmed_turn, trimmed_found   nothing is left, the last byte is a separator, it is another
+--   word_tested        a word, as std tests it
+--   letter_told        the letter, by which word it is
+--   letter_byte        the letter in the definition of a design is this one, or no byte of a case
+--   number_none, number_start, number_turn, number_other, number_end   an empty cell, all digits, one more, a byte that is none, no more
+--   small_is, small_none   a number that is small, and one that is not
+--   small_over         one that is too large before its last digit is none
 -- Assumes nothing.
 use mathlib.Core.Path.{◌≡◌, refl, sym, ap, ap₂, subst, ◌∙◌}
-use mathlib.Core.Bool.{Bool, true, false, ◌&&◌, cond, false≢true, and-true, and-eq-true_iff}
-use mathlib.Core.List.{List, [], ◌∷◌}
-use mathlib.Core.Option.{Option, none, some}
+use mathlib.Core.Bool.{Bool, true, false, ◌&&◌, cond, and-true}
+use mathlib.Core.List.{List, [], ◌∷◌, ◌++◌}
+use Rattle.std.specs.Prelude.{Option, None, Some, MatchOption}
+use Rattle.std.specs.Option.{unwrap_or}
+use Rattle.std.specs.Cmp.Lexicographic.{pointwise}
 use Prim.Native.Nat.{ℕ, zero, suc, ◌+◌, ◌*◌, ◌-◌, ◌<◌, ◌≤◌}
-use native.Mathlib.Nat.{le_refl}
 use native.Mathlib.Numerals.{add-one}
-use native.Mathlib.Decide.{dec_le}
 use native.Mathlib.Omega.{arith}
-use lib.ListN.{length, get_or, take, drop, length-drop, drop_of_length-le}
-use lib.Seq.{drop-cons, drop-drop, take_all, take-length, take-take, get_or-take, get_or-drop, length-take-le}
-use lib.Dec.{leb, eqb, leb-suc-suc}
-use borrow.Author.Tests.{lt-ltb, le-ltb, le-leb, lt-leb, eq-eqb, ne_eqb, eqb-true, leb-true}
+use lib.ListN.{length, get_or, take, drop, length-append, get_or-append, drop_of_length-le}
+use lib.Seq.{drop-cons, take-length, get_or-append_seam}
+use lib.Dec.{leb, eqb}
+use denote.Ref.{Bor}
+use borrow.Author.Tests.{leb-true, leb-false, le-leb, lt-leb, eq-eqb, ne_eqb}
+use Rattle.std.proofs.lemmas.List.{take-append-le}
+use Rattle.std.proofs.lemmas.Option.{none-some, same_Some}
 use Rattle.meaning.specs.Ascii.{ascii}
-use Rattle.meaning.specs.Design.{is_separator, separator_in, without_mark, joined, cut_at, without_return, used, is_digit, number_from, number_in, no_byte, same, letter_of}
-use Rattle.cells.specs.Cells.{BehindMark, rest_at, Piece, BeforeReturn, UsedPart, too_large, capped}
+use Rattle.meaning.specs.Bounds.{most_allowance}
+use Rattle.meaning.specs.Design.{is_separator, separator_in, without_mark, without_return, used, is_digit, number_from, number_in, no_byte, same, letter_of}
+use Rattle.cells.specs.Cells.{letter_in, small}
 
 -- what is left from a place on is the byte there and what is left behind it
 left_at : (s : List ℕ) (i : ℕ) → i < length s → drop i s ≡ get_or s i 0 ∷ drop (i + 1) s
@@ -55,229 +54,126 @@ unfolding separator_in
 separator_end t i h = ap separator_in (drop_of_length-le t h)
 
 -- equal bytes
-same_refl : (a : List ℕ) → same a a ≡ true
+pub same_equal : (a b : List ℕ) → same a b ≡ pointwise eqb a b
 unfolding same
-same_refl [] = refl
-same_refl (x ∷ a) = ap₂ ◌&&◌ (eq-eqb x x refl) (same_refl a)
-
-same_equal : (a b : List ℕ) → same a b ≡ true → a ≡ b
-unfolding same
-same_equal [] [] e = refl
-same_equal [] (y ∷ b) e = absurd (false≢true e)
-same_equal (x ∷ a) [] e = absurd (false≢true e)
-same_equal (x ∷ a) (y ∷ b) e =
-    let both = (and-eq-true_iff (eqb x y) (same a b)).0 e in
-    ap₂ ◌∷◌ (eqb-true x y both.0) (same_equal a b both.1)
-
-pub same_self : (a b : List ℕ) → a ≡ b → same a b ≡ true
-same_self a b e = subst (λ l. same a l ≡ true) e (same_refl a)
-
-is_false : (b : Bool) → ¬ (b ≡ true) → b ≡ false
-is_false true h = absurd (h refl)
-is_false false h = refl
-
-pub same_other : (a b : List ℕ) → ¬ (a ≡ b) → same a b ≡ false
-same_other a b h = is_false (same a b) (λ e. h (same_equal a b e))
+same_equal [] [] = refl
+same_equal [] (y ∷ b) = refl
+same_equal (x ∷ a) [] = refl
+same_equal (x ∷ a) (y ∷ b) = ap (λ t. eqb x y && t) (same_equal a b)
 
 -- the byte-order mark
 abbrev pub mark_bytes : List ℕ
 mark_bytes = 239 ∷ 187 ∷ 191 ∷ []
 
-mark_same : (t : List ℕ) → without_mark t ≡ cond (same (take 3 t) mark_bytes) (drop 3 t) t
-unfolding without_mark same
+mark_same : (t : List ℕ) → without_mark t ≡ cond (pointwise eqb (take 3 t) mark_bytes) (drop 3 t) t
+unfolding without_mark
 mark_same [] = refl
 mark_same (x ∷ []) = refl
 mark_same (x ∷ y ∷ []) = refl
 mark_same (x ∷ y ∷ z ∷ t) =
     ap (λ b. cond (eqb x 239 && (eqb y 187 && b)) t (x ∷ y ∷ z ∷ t)) (sym (and-true (eqb z 191)))
 
-pub mark_taken : (t : List ℕ) → 3 ≤ length t → same (take 3 t) mark_bytes ≡ true → BehindMark t 3
-mark_taken t h e = record { within = h; rest = sym (mark_same t ∙ ap (λ b. cond b (drop 3 t) t) e) }
-
-pub mark_none : (t : List ℕ) → same (take 3 t) mark_bytes ≡ false → BehindMark t 0
-mark_none t e = record { within = omega arith; rest = sym (mark_same t ∙ ap (λ b. cond b (drop 3 t) t) e) }
-
-pub mark_short : (t : List ℕ) → length t < 3 → BehindMark t 0
-mark_short t h =
-    mark_none t (same_other (take 3 t) mark_bytes (λ e. omega (arith, ap length (sym (take_all 3 t (omega arith)) ∙ e))))
-
--- pieces
-pub rest_end : (b : ℕ) (s : List ℕ) (r : ℕ) → length s ≤ r → rest_at b s r ≡ []
-unfolding rest_at
-rest_end b s r h = ap (λ x. cond x (cut_at b (drop (suc r) s)) []) (le-ltb r (length s) h)
-
-rest_suc : (b : ℕ) (s : List ℕ) (r : ℕ) → r < length s → rest_at b s r ≡ cut_at b (drop (suc r) s)
-unfolding rest_at
-rest_suc b s r h = ap (λ x. cond x (cut_at b (drop (suc r) s)) []) (lt-ltb r (length s) h)
-
-pub rest_more : (b : ℕ) (s : List ℕ) (r : ℕ) → r < length s → rest_at b s r ≡ cut_at b (drop (r + 1) s)
-rest_more b s r h = rest_suc b s r h ∙ ap (λ k. cut_at b (drop k s)) (sym (add-one r))
-
-rest_drop : (b : ℕ) (s : List ℕ) (from k : ℕ) → rest_at b (drop from s) k ≡ rest_at b s (from + k)
-rest_drop b s from k =
-    elim (dec_le (length s) (from + k)) [
-      | yes h ↦ rest_end b (drop from s) k (omega (arith, length-drop from s)) ∙ sym (rest_end b s (from + k) h)
-      | no h ↦ let sum : from + suc k ≡ suc (from + k) = omega arith in
-          rest_suc b (drop from s) k (omega (arith, length-drop from s))
-          ∙ ap (cut_at b) (drop-drop (suc k) from s ∙ ap (λ j. drop j s) sum) ∙ sym (rest_suc b s (from + k) (omega arith))
-    ]
-
--- the bytes before place k are not b, and that at k is, unless s ends there
-cut_first : (b : ℕ) (s : List ℕ) (k : ℕ) → k ≤ length s → ((j : ℕ) → j < k → ¬ (get_or s j 0 ≡ b)) → (k < length s → get_or s k 0 ≡ b)
-    → cut_at b s ≡ take k s ∷ rest_at b s k
-unfolding cut_at rest_at joined
-cut_first b [] zero h before at = refl
-cut_first b [] (suc k) h before at = absurd (omega arith)
-cut_first b (x ∷ s) zero h before at =
-    ap (λ t. cond t ([] ∷ cut_at b s) (joined x (cut_at b s))) (eq-eqb x b (at (omega arith)))
-    ∙ ap (λ l. [] ∷ l) (sym (rest_suc b (x ∷ s) 0 (omega arith)))
-cut_first b (x ∷ s) (suc k) h before at =
-    let tail = cut_first b s k (omega arith) (λ j l. before (suc j) (omega arith)) (λ l. at (omega arith)) in
-    ap (λ t. cond t ([] ∷ cut_at b s) (joined x (cut_at b s))) (ne_eqb x b (before 0 (omega arith)))
-    ∙ ap (joined x) tail
-    ∙ ap (λ t. (x ∷ take k s) ∷ cond t (cut_at b (drop (suc k) s)) []) (sym (leb-suc-suc (suc k) (length s)))
-
-pub piece_at : {b from r : ℕ} {s : List ℕ} → from ≤ r → r ≤ length s → ((j : ℕ) → from ≤ j → j < r → ¬ (get_or s j 0 ≡ b))
-    → (r < length s → get_or s r 0 ≡ b) → Piece b s from r
-piece_at {b} {from} {r} {s} a w before at =
-    let sum : from + (r - from) ≡ r = omega arith in
-    let byte : (j : ℕ) → get_or (drop from s) j 0 ≡ get_or s (from + j) 0 = λ j. get_or-drop from s j 0 in
-    record {
-      after = a;
-      within = w;
-      cut =
-          cut_first b (drop from s) (r - from) (omega (arith, length-drop from s))
-          (λ j l e. before (from + j) (omega arith) (omega arith) (sym (byte j) ∙ e))
-          (λ l. byte (r - from) ∙ ap (λ j. get_or s j 0) sum ∙ at (omega (arith, length-drop from s)))
-          ∙ ap (λ l. take (r - from) (drop from s) ∷ l) (rest_drop b s from (r - from) ∙ ap (rest_at b s) sum);
-    }
-
-pub piece_last : {b from r : ℕ} {s : List ℕ} → Piece b s from r → length s ≤ r → cut_at b (drop from s) ≡ take (r - from) (drop from s) ∷ []
-piece_last {b} {from} {r} {s} P h = P.cut ∙ ap (λ l. take (r - from) (drop from s) ∷ l) (rest_end b s r h)
-
-pub piece_more : {b from r : ℕ} {s : List ℕ} → Piece b s from r → r < length s
-    → cut_at b (drop from s) ≡ take (r - from) (drop from s) ∷ cut_at b (drop (r + 1) s)
-piece_more {b} {from} {r} {s} P h = P.cut ∙ ap (λ l. take (r - from) (drop from s) ∷ l) (rest_more b s r h)
+pub mark_stripped : (r : Option (Bor (List ℕ))) (t : Bor (List ℕ))
+    → MatchOption r (pointwise eqb (take 3 t.now) mark_bytes ≡ false) (λ x. (pointwise eqb (take 3 t.now) mark_bytes ≡ true) × (x.now ≡ drop 3 t.now) × (length x.now + 3 ≡ length t.now))
+    → (unwrap_or r t).now ≡ without_mark t.now
+mark_stripped None t h = sym (mark_same t.now ∙ ap (λ b. cond b (drop 3 t.now) t.now) h)
+mark_stripped (Some x) t h = h.1 ∙ sym (mark_same t.now ∙ ap (λ b. cond b (drop 3 t.now) t.now) h.0)
 
 -- the carriage return
-return_at : {b : Bool} (l : List ℕ) → eqb (get_or l (length l - 1) 0) 13 ≡ b → without_return l ≡ cond b (take (length l - 1) l) l
+last_same : (l : List ℕ) → pointwise eqb (drop (length l - 1) l) (13 ∷ []) ≡ eqb (get_or l (length l - 1) 0) 13
+last_same [] = refl
+last_same (x ∷ l) =
+    let k : ℕ = length (x ∷ l) - 1 in
+    let more : drop k (x ∷ l) ≡ get_or (x ∷ l) k 0 ∷ drop (k + 1) (x ∷ l) = left_at (x ∷ l) k (omega arith) in
+    let none : drop (k + 1) (x ∷ l) ≡ [] = drop_of_length-le (x ∷ l) (omega arith) in
+    ap (λ t. pointwise eqb t (13 ∷ [])) (more ∙ ap (λ t. get_or (x ∷ l) k 0 ∷ t) none) ∙ and-true _
+
+return_same : (l : List ℕ) → without_return l ≡ cond (pointwise eqb (drop (length l - 1) l) (13 ∷ [])) (take (length l - 1) l) l
 unfolding without_return
-return_at l e = ap (λ x. cond x (take (length l - 1) l) l) e
+return_same l = ap (λ b. cond b (take (length l - 1) l) l) (sym (last_same l))
 
-pub return_cut : (l : List ℕ) → get_or l (length l - 1) 0 ≡ 13 → BeforeReturn l (length l - 1)
-return_cut l e = record { within = omega arith; line = sym (return_at l (eq-eqb _ 13 e)) }
-
-pub return_kept : (l : List ℕ) → ¬ (get_or l (length l - 1) 0 ≡ 13) → BeforeReturn l (length l)
-return_kept l e = record { within = le_refl (length l); line = take-length l ∙ sym (return_at l (ne_eqb _ 13 e)) }
-
-pub return_none : (l : List ℕ) → length l ≡ 0 → BeforeReturn l 0
-return_none [] e = return_kept [] (λ q. omega arith)
-return_none (x ∷ l) e = absurd (omega arith)
+pub return_stripped : (r : Option (Bor (List ℕ))) (l : Bor (List ℕ))
+    → MatchOption r (pointwise eqb (drop (length l.now - 1) l.now) (13 ∷ []) ≡ false)
+    (λ x. (pointwise eqb (drop (length l.now - 1) l.now) (13 ∷ []) ≡ true) × (x.now ≡ take (length l.now - 1) l.now)
+    × (length x.now + 1 ≡ length l.now))
+    → (unwrap_or r l).now ≡ without_return l.now
+return_stripped None l h = sym (return_same l.now ∙ ap (λ b. cond b (take (length l.now - 1) l.now) l.now) h)
+return_stripped (Some x) l h = h.1 ∙ sym (return_same l.now ∙ ap (λ b. cond b (take (length l.now - 1) l.now) l.now) h.0)
 
 -- separators at the end
-used_at : {b : Bool} (s : ℕ) (l : List ℕ) (e : ℕ) → 0 < e → eqb (get_or l (e - 1) 0) s ≡ b → used s l e ≡ cond b (used s l (e - 1)) e
+abbrev pub trimmed : ℕ → List ℕ → List ℕ
+trimmed s l = take (used s l (length l)) l
+
+used_most : (s : ℕ) (l : List ℕ) (k : ℕ) → used s l k ≤ k
 unfolding used
-used_at s l e h q =
-    let one : e ≡ suc (e - 1) = omega arith in
-    ap (used s l) one ∙ ap₂ (λ b k. cond b (used s l (e - 1)) k) q (sym one)
+used_most s l zero = omega arith
+used_most s l (suc k) = go (eqb (get_or l k 0) s) (used_most s l k)
+  where
+    go : (b : Bool) → used s l k ≤ k → cond b (used s l k) (suc k) ≤ suc k
+    go true h = omega arith
+    go false h = omega arith
 
-used_zero : (s : ℕ) (l : List ℕ) (k : ℕ) → k ≤ 0 → used s l k ≡ k
+used_front : (s : ℕ) (l t : List ℕ) (k : ℕ) → k ≤ length l → used s (l ++ t) k ≡ used s l k
 unfolding used
-used_zero s l zero h = refl
-used_zero s l (suc k) h = absurd (omega arith)
+used_front s l t zero h = refl
+used_front s l t (suc k) h =
+    ap₂ (λ x u. cond (eqb x s) u (suc k)) (get_or-append l t 0 k (omega arith)) (used_front s l t k (omega arith))
 
-pub record UsedTo (s : ℕ) (l : List ℕ) (e : ℕ) : Type 0 where
-  pub line : ℕ
-  pub before : BeforeReturn l line
-  pub within : e ≤ line
-  pub part : used s (without_return l) e ≡ used s (without_return l) (length (without_return l))
+-- how much of a line is used, by its last byte
+used_last : {b : Bool} (s x : ℕ) (l : List ℕ) → eqb x s ≡ b → used s (l ++ x ∷ []) (length (l ++ x ∷ [])) ≡ cond b (used s l (length l)) (suc (length l))
+unfolding used
+used_last s x l e =
+    let long : length (l ++ x ∷ []) ≡ suc (length l) = length-append l (x ∷ []) ∙ add-one (length l) in
+    ap (used s (l ++ x ∷ [])) long
+    ∙ ap₂ (λ y u. cond (eqb y s) u (suc (length l))) (get_or-append_seam l x [] 0) (used_front s l (x ∷ []) (length l) (omega arith))
+    ∙ ap (λ c. cond c (used s l (length l)) (suc (length l))) e
 
-pub used_start : {l : List ℕ} {r : ℕ} (s : ℕ) → BeforeReturn l r → UsedTo s l r
-used_start {l} {r} s B =
-    let long = sym (ap length (sym B.line) ∙ length-take-le r l B.within) in
-    record { line = r; before = B; within = le_refl r; part = ap (used s (without_return l)) long }
+pub trimmed_none : (s : ℕ) (l : List ℕ) → length l ≡ 0 → l ≡ trimmed s l
+unfolding used
+trimmed_none s [] h = refl
+trimmed_none s (x ∷ l) h = absurd (omega arith)
 
-byte_at : {l : List ℕ} {r : ℕ} (k : ℕ) → BeforeReturn l r → k < r → get_or (without_return l) k 0 ≡ get_or l k 0
-byte_at {l} {r} k B h = ap (λ w. get_or w k 0) (sym B.line) ∙ get_or-take r l k 0 h
+pub trimmed_turn : (s x : ℕ) (l w : List ℕ) → w ≡ l ++ x ∷ [] → x ≡ s → trimmed s w ≡ trimmed s l
+trimmed_turn s x l w e h =
+    ap (trimmed s) e ∙ ap (λ k. take k (l ++ x ∷ [])) (used_last s x l (eq-eqb x s h)) ∙ take-append-le (used s l (length l)) l (x ∷ []) (used_most s l (length l))
 
-pub used_turn : {s e : ℕ} {l : List ℕ} → 0 < e → get_or l (e - 1) 0 ≡ s → UsedTo s l e → UsedTo s l (e - 1)
-used_turn {s} {e} {l} h q U = record {
-  line = U.line;
-  before = U.before;
-  within = omega (arith, U.within);
-  part = sym (used_at s (without_return l) e h (eq-eqb _ s (byte_at (e - 1) U.before (omega (arith, U.within)) ∙ q))) ∙ U.part;
-}
-
-used_all : {s e : ℕ} {l : List ℕ} → UsedTo s l e → used s (without_return l) e ≡ e → UsedPart s l e
-used_all {e} {l} U q = record {
-  within = omega (arith, U.within, U.before.within);
-  size = sym q ∙ U.part;
-  part = sym (ap (take e) (sym U.before.line) ∙ take-take e U.line l U.within);
-}
-
-pub used_found : {s e : ℕ} {l : List ℕ} → 0 < e → ¬ (get_or l (e - 1) 0 ≡ s) → UsedTo s l e → UsedPart s l e
-used_found {s} {e} {l} h q U =
-    used_all U (used_at s (without_return l) e h (ne_eqb _ s (λ k. q (sym (byte_at (e - 1) U.before (omega (arith, U.within))) ∙ k))))
-
-pub used_end : {s e : ℕ} {l : List ℕ} → e ≤ 0 → UsedTo s l e → UsedPart s l e
-used_end {s} {e} {l} h U = used_all U (used_zero s (without_return l) e h)
+pub trimmed_found : (s x : ℕ) (l w : List ℕ) → w ≡ l ++ x ∷ [] → ¬ (x ≡ s) → w ≡ trimmed s w
+trimmed_found s x l w e h =
+    let long : length (l ++ x ∷ []) ≡ suc (length l) = length-append l (x ∷ []) ∙ add-one (length l) in
+    let all : l ++ x ∷ [] ≡ trimmed s (l ++ x ∷ []) =
+    sym (ap (λ k. take k (l ++ x ∷ [])) (used_last s x l (ne_eqb x s h) ∙ sym long) ∙ take-length (l ++ x ∷ [])) in
+    e ∙ all ∙ ap (trimmed s) (sym e)
 
 -- words
+pub word_tested : {b r : Bool} {v u : List ℕ} (w : List ℕ) → r ≡ pointwise eqb w v → v ≡ u → r ≡ b → same w u ≡ b
+word_tested {u = u} w e f h = same_equal w u ∙ ap (pointwise eqb w) (sym f) ∙ sym e ∙ h
+
 pub letter_told : {a b c d : Bool} (w : List ℕ) → same w (ascii "field") ≡ a → same w (ascii "allowance") ≡ b → same w (ascii "row") ≡ c
-    → same w (ascii "candidate") ≡ d → letter_of w ≡ cond a 70 (cond b 65 (cond c 82 (cond d 67 no_byte)))
-unfolding letter_of
-letter_told w e f g h i = cond (e i) 70 (cond (f i) 65 (cond (g i) 82 (cond (h i) 67 no_byte)))
+    → same w (ascii "candidate") ≡ d → letter_in w ≡ cond a (Some 70) (cond b (Some 65) (cond c (Some 82) (cond d (Some 67) None)))
+unfolding letter_in
+letter_told w e f g h = λ i. cond (e i) (Some 70) (cond (f i) (Some 65) (cond (g i) (Some 82) (cond (h i) (Some 67) None)))
+
+pub letter_byte : (w : List ℕ) → letter_of w ≡ unwrap_or (letter_in w) no_byte
+unfolding letter_of letter_in
+letter_byte w = go (same w (ascii "field")) (same w (ascii "allowance")) (same w (ascii "row")) (same w (ascii "candidate"))
+  where
+    go : (a b c d : Bool) → cond a 70 (cond b 65 (cond c 82 (cond d 67 no_byte)))
+        ≡ unwrap_or (cond a (Some 70) (cond b (Some 65) (cond c (Some 82) (cond d (Some 67) None)))) no_byte
+    go true b c d = refl
+    go false true c d = refl
+    go false false true d = refl
+    go false false false true = refl
+    go false false false false = refl
 
 -- numbers
-pub capped_small : (v : ℕ) → v ≤ too_large → capped (some v) ≡ v
-unfolding capped
-capped_small v h = ap (λ b. cond b v too_large) (le-leb v too_large h)
-
-pub capped_large : (v : ℕ) → too_large < v → capped (some v) ≡ too_large
-unfolding capped
-capped_large v h = ap (λ b. cond b v too_large) (lt-leb v too_large h)
-
--- a number that is capped before a digit is the same once it is capped behind it
-capped-digit : (v d : ℕ) → capped (some (10 * capped (some v) + d)) ≡ capped (some (10 * v + d))
-capped-digit v d =
-    elim (dec_le v too_large) [
-      | yes h ↦ ap (λ x. capped (some (10 * x + d))) (capped_small v h)
-      | no h ↦ ap (λ x. capped (some (10 * x + d))) (capped_large v (omega arith)) ∙ capped_large (10 * too_large + d) (omega arith)
-          ∙ sym (capped_large (10 * v + d) (omega arith))
-    ]
-
-pub capped_most : (v : ℕ) → capped (some v) ≤ too_large
-capped_most v =
-    elim (dec_le v too_large) [
-      | yes h ↦ omega (arith, capped_small v h)
-      | no h ↦ omega (arith, capped_large v (omega arith))
-    ]
-
-digit_or_none : (b : Bool) (x y : Option ℕ) → capped x ≡ capped y → capped (cond b x none) ≡ capped (cond b y none)
-digit_or_none true x y e = e
-digit_or_none false x y e = refl
-
-capped_from : (v : ℕ) (w : List ℕ) → capped (number_from (capped (some v)) w) ≡ capped (number_from v w)
-unfolding number_from
-capped_from v [] = capped_small (capped (some v)) (capped_most v)
-capped_from v (b ∷ w) =
-    let d : ℕ = b - 48 in
-    digit_or_none (is_digit b) _ _
-    (sym (capped_from (10 * capped (some v) + d) w) ∙ ap (λ x. capped (number_from x w)) (capped-digit v d) ∙ capped_from (10 * v + d) w)
-
-pub digit_range : (b : ℕ) → is_digit b ≡ true → (48 ≤ b) × (b ≤ 57)
-digit_range b e =
-    let both = (and-eq-true_iff (leb 48 b) (leb b 57)).0 e in
-    (leb-true 48 b both.0, leb-true b 57 both.1)
-
 number_at : {b : Bool} (s : List ℕ) (i v : ℕ) → i < length s → is_digit (get_or s i 0) ≡ b
-    → number_from v (drop i s) ≡ cond b (number_from (10 * v + (get_or s i 0 - 48)) (drop (i + 1) s)) none
+    → number_from v (drop i s) ≡ cond b (number_from (10 * v + (get_or s i 0 - 48)) (drop (i + 1) s)) None
 unfolding number_from
 number_at s i v h e =
-    ap (number_from v) (left_at s i h) ∙ ap (λ b. cond b (number_from (10 * v + (get_or s i 0 - 48)) (drop (i + 1) s)) none) e
+    ap (number_from v) (left_at s i h) ∙ ap (λ b. cond b (number_from (10 * v + (get_or s i 0 - 48)) (drop (i + 1) s)) None) e
 
-pub number_none : (s : List ℕ) → length s ≡ 0 → capped (number_in s) ≡ too_large
-unfolding number_in capped
+pub number_none : (s : List ℕ) → length s ≡ 0 → None ≡ small (number_in s)
+unfolding number_in small
 number_none [] h = refl
 number_none (b ∷ s) h = absurd (omega arith)
 
@@ -286,15 +182,43 @@ unfolding number_in
 number_start [] h = absurd (h refl)
 number_start (b ∷ s) h = refl
 
-pub number_turn : {x : ℕ} (s : List ℕ) (i v : ℕ) → i < length s → is_digit (get_or s i 0) ≡ true → x ≡ capped (some (10 * v + (get_or s i 0 - 48)))
-    → capped (number_from x (drop (i + 1) s)) ≡ capped (number_from v (drop i s))
-number_turn s i v h e q =
-    ap (λ y. capped (number_from y (drop (i + 1) s))) q ∙ capped_from (10 * v + (get_or s i 0 - 48)) (drop (i + 1) s) ∙ ap capped (sym (number_at s i v h e))
+pub number_turn : (s : List ℕ) (i v : ℕ) → i < length s → is_digit (get_or s i 0) ≡ true
+    → number_from (10 * v + (get_or s i 0 - 48)) (drop (i + 1) s) ≡ number_from v (drop i s)
+number_turn s i v h e = sym (number_at s i v h e)
 
-pub number_other : (s : List ℕ) (i v : ℕ) → i < length s → is_digit (get_or s i 0) ≡ false → capped (number_from v (drop i s)) ≡ too_large
-unfolding capped
-number_other s i v h e = ap capped (number_at s i v h e)
+pub number_other : (s : List ℕ) (i v : ℕ) → i < length s → is_digit (get_or s i 0) ≡ false → None ≡ small (number_from v (drop i s))
+unfolding small
+number_other s i v h e = ap small (sym (number_at s i v h e))
 
-pub number_end : (s : List ℕ) (i v : ℕ) → length s ≤ i → v ≤ too_large → capped (number_from v (drop i s)) ≡ v
-unfolding number_from
-number_end s i v h l = ap (λ w. capped (number_from v w)) (drop_of_length-le s h) ∙ capped_small v l
+pub number_end : (s : List ℕ) (i v : ℕ) → length s ≤ i → v ≤ most_allowance → Some v ≡ small (number_from v (drop i s))
+unfolding number_from small
+number_end s i v h l = sym (ap (λ w. small (number_from v w)) (drop_of_length-le s h) ∙ ap (λ b. cond b (Some v) None) (le-leb v most_allowance l))
+
+-- a number that is small is the number
+pub small_is : {v : ℕ} (o : Option ℕ) → small o ≡ Some v → (o ≡ Some v) × (v ≤ most_allowance)
+unfolding small
+small_is None e = absurd (none-some _ e)
+small_is {v} (Some w) e = go (leb w most_allowance) refl e
+  where
+    go : (t : Bool) → leb w most_allowance ≡ t → cond t (Some w) None ≡ Some v → (Some w ≡ Some v) × (v ≤ most_allowance)
+    go true h e = (e, subst (λ x. x ≤ most_allowance) (same_Some _ _ e) (leb-true w most_allowance h))
+    go false h e = absurd (none-some _ e)
+
+pub small_none : (o : Option ℕ) → small o ≡ None → (v : ℕ) → o ≡ Some v → most_allowance < v
+unfolding small
+small_none None e v h = absurd (none-some _ h)
+small_none (Some w) e v h = go (leb w most_allowance) refl e
+  where
+    go : (t : Bool) → leb w most_allowance ≡ t → cond t (Some w) None ≡ None → most_allowance < v
+    go true k e = absurd (none-some _ (sym e))
+    go false k e = subst (λ x. most_allowance < x) (same_Some _ _ h) (leb-false w most_allowance k)
+
+-- and so it was where it is too large before its last digit
+pub small_over : (v : ℕ) (w : List ℕ) → most_allowance < v → None ≡ small (number_from v w)
+unfolding number_from small
+small_over v [] h = sym (ap (λ b. cond b (Some v) None) (lt-leb v most_allowance h))
+small_over v (b ∷ w) h = go (is_digit b) (small_over (10 * v + (b - 48)) w (omega arith))
+  where
+    go : (t : Bool) → None ≡ small (number_from (10 * v + (b - 48)) w) → None ≡ small (cond t (number_from (10 * v + (b - 48)) w) None)
+    go true e = e
+    go false e = refl

@@ -1,41 +1,22 @@
 -- What is read of a design's text.
---   BehindMark t r     r is the place behind the byte-order mark at the front of the text t; the front, where there is none
---   rest_at b s r       the pieces of s behind its byte b at the place r; none, where r is its end
---   Piece b s from r   the first piece of s from `from` on, cut at the bytes b, ends at r
---   BeforeReturn l r   the first r bytes of the line l are the line without the carriage return at its end
---   UsedPart s l r     the first r bytes of the line l come before the separators s at its end
---   too_large           16,384: the numbers of a design are smaller
---   capped o           the number o, where it is smaller; `too_large`, where it is not or where there is none
+--   used_part s l     the line l without the carriage return and then the separators s at its end
+--   letter_in w       the letter of the record that begins with the word w, or none
+--   small o           the number o where it is an allowance; none where it is larger, or where there is none
 -- Assumes nothing.
-use Rattle.std.specs.Prelude.{◌≡◌, cond, List, [], ◌∷◌, ℕ, suc, ◌+◌, ◌-◌, ◌≤◌, length, take, drop, leb, ltb}
-use Rattle.std.proofs.Math.Option.{Option, none, some}
+use Rattle.std.specs.Prelude.{cond, List, ℕ, length, take, leb}
+use Rattle.std.specs.Prelude.{Option, None, Some}
+use Rattle.meaning.specs.Ascii.{ascii}
 use Rattle.meaning.specs.Bounds.{most_allowance}
-use Rattle.meaning.specs.Design.{without_mark, cut_at, without_return, used}
+use Rattle.meaning.specs.Design.{without_return, used, same}
 
-pub record BehindMark (t : List ℕ) (r : ℕ) : Type 0 where
-  pub within : r ≤ length t
-  pub rest : drop r t ≡ without_mark t
+abbrev pub used_part : ℕ → List ℕ → List ℕ
+used_part s l = take (used s (without_return l) (length (without_return l))) (without_return l)
 
-unfoldable pub rest_at : ℕ → List ℕ → ℕ → List (List ℕ)
-rest_at b s r = cond (ltb r (length s)) (cut_at b (drop (suc r) s)) []
+unfoldable pub letter_in : List ℕ → Option ℕ
+letter_in w =
+    cond (same w (ascii "field")) (Some 70) (cond (same w (ascii "allowance")) (Some 65)
+    (cond (same w (ascii "row")) (Some 82) (cond (same w (ascii "candidate")) (Some 67) None)))
 
-pub record Piece (b : ℕ) (s : List ℕ) (from r : ℕ) : Type 0 where
-  pub after : from ≤ r
-  pub within : r ≤ length s
-  pub cut : cut_at b (drop from s) ≡ take (r - from) (drop from s) ∷ rest_at b s r
-
-pub record BeforeReturn (l : List ℕ) (r : ℕ) : Type 0 where
-  pub within : r ≤ length l
-  pub line : take r l ≡ without_return l
-
-pub record UsedPart (s : ℕ) (l : List ℕ) (r : ℕ) : Type 0 where
-  pub within : r ≤ length l
-  pub size : r ≡ used s (without_return l) (length (without_return l))
-  pub part : take r l ≡ take r (without_return l)
-
-abbrev pub too_large : ℕ
-too_large = most_allowance + 1
-
-unfoldable pub capped : Option ℕ → ℕ
-capped none = too_large
-capped (some v) = cond (leb v too_large) v too_large
+unfoldable pub small : Option ℕ → Option ℕ
+small None = None
+small (Some v) = cond (leb v most_allowance) (Some v) None

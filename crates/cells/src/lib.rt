@@ -1,170 +1,99 @@
 // A design's text (02, #101), read where it lies: its separator, its pieces, and the word or the number that a cell says.
 #![tactic(auto)]
 
-ghost use Rattle.std.specs.Prelude.{◌≡◌, ◌≤◌, length};
-ghost use Rattle.std.proofs.Math.Option.{some};
-ghost use Rattle.meaning.specs.Design.{is_separator, separator_in, is_digit, number_in, same, letter_of};
-ghost use Rattle.cells.specs.Cells.{BehindMark, Piece, BeforeReturn, UsedPart, capped};
+ghost use Rattle.std.specs.Prelude.{◌≡◌, ◌≤◌, IfSome};
+ghost use Rattle.meaning.specs.Bounds.{most_allowance};
+ghost use Rattle.meaning.specs.Design.{is_separator, separator_in, without_mark, without_return, number_in};
+ghost use Rattle.cells.specs.Cells.{used_part, letter_in, small};
 
 use meaning::MOST_ALLOWANCE;
 
-// What is no word is taken for this: no byte of a case, wherever it stands.
-pub const NO_BYTE: u8 = 254;
-
-// What is no number, or a larger one, is taken for this.
+// A number from here on is no entry, no size and no allowance, so it says no more than a wrong cell.
 const TOO_LARGE: u32 = MOST_ALLOWANCE + 1;
 
 fn is_separator(b: u8) -> bool
     ensures { result ≡ is_separator b }
 {
-    match b {
-        b',' | b';' | b'\t' => true,
-        _ => false,
-    }
+    matches!(b, b',' | b';' | b'\t')
 }
 
 // The first separator of the text; a comma where it has none.
 pub fn separator(text: &[u8]) -> u8
     ensures { result ≡ separator_in text.now }
 {
-    let mut i = 0;
-    while i < text.len() {
-        if is_separator(text[i]) {
-            return text[i];
+    for b in text {
+        if is_separator(*b) {
+            return *b;
         }
-        i += 1;
     }
     b','
 }
 
-fn same_bytes(a: &[u8], b: &[u8]) -> bool
-    ensures { result ≡ same a.now b.now }
+// The text behind the byte-order mark that it may begin with.
+pub fn without_mark(text: &[u8]) -> &[u8]
+    ensures { result.now ≡ without_mark text.now }
 {
-    if a.len() != b.len() {
-        return false;
-    }
-    let mut i = 0;
-    while i < a.len() {
-        if a[i] != b[i] {
-            return false;
+    text.strip_prefix(b"\xEF\xBB\xBF").unwrap_or(text)
+}
+
+// The line without the carriage return at its end.
+fn without_return(line: &[u8]) -> &[u8]
+    ensures { result.now ≡ without_return line.now }
+{
+    line.strip_suffix(b"\r").unwrap_or(line)
+}
+
+// The line without the carriage return and then the separators at its end.
+pub fn used_part(line: &[u8], s: u8) -> &[u8]
+    ensures { result.now ≡ used_part s line.now }
+{
+    let mut used = without_return(line);
+    while let Some((last, rest)) = used.split_last() {
+        if *last != s {
+            break;
         }
-        i += 1;
+        used = rest;
     }
-    true
-}
-
-// The place behind the byte-order mark that a text may begin with.
-pub fn front(text: &[u8]) -> usize
-    ensures { BehindMark text.now result }
-{
-    if text.len() < 3 {
-        return 0;
-    }
-    if same_bytes(&text[..3], b"\xEF\xBB\xBF") {
-        return 3;
-    }
-    0
-}
-
-// The first place from `from` on that has the byte b, or the length.
-pub fn find(s: &[u8], from: usize, b: u8) -> usize
-    requires { from ≤ length s.now }
-    ensures { Piece b s.now from result }
-{
-    let mut i = from;
-    while i < s.len() {
-        if s[i] == b {
-            return i;
-        }
-        i += 1;
-    }
-    i
-}
-
-// The length of the line without the carriage return at its end.
-fn before_return(line: &[u8]) -> usize
-    ensures { BeforeReturn line.now result }
-{
-    let len = line.len();
-    if len == 0 {
-        return 0;
-    }
-    let last = len - 1;
-    if line[last] == b'\r' {
-        return last;
-    }
-    len
-}
-
-// The length of the line without the carriage return and then the separators at its end.
-pub fn used_part(line: &[u8], s: u8) -> usize
-    ensures { UsedPart s line.now result }
-{
-    let mut end = before_return(line);
-    while 0 < end {
-        if line[end - 1] != s {
-            return end;
-        }
-        end -= 1;
-    }
-    end
+    used
 }
 
 // The letter of the record that begins with the word in the cell.
-pub fn letter(cell: &[u8]) -> u8
-    ensures { result ≡ letter_of cell.now }
+pub fn letter(cell: &[u8]) -> Option<u8>
+    ensures { result ≡ letter_in cell.now }
 {
-    if same_bytes(cell, b"field") {
-        return b'F';
+    // no `match`: its last arm would be a goal for each byte at which a word can fail
+    if cell == b"field".as_slice() {
+        return Some(b'F');
     }
-    if same_bytes(cell, b"allowance") {
-        return b'A';
+    if cell == b"allowance".as_slice() {
+        return Some(b'A');
     }
-    if same_bytes(cell, b"row") {
-        return b'R';
+    if cell == b"row".as_slice() {
+        return Some(b'R');
     }
-    if same_bytes(cell, b"candidate") {
-        return b'C';
+    if cell == b"candidate".as_slice() {
+        return Some(b'C');
     }
-    NO_BYTE
+    None
 }
 
-fn is_digit(b: u8) -> bool
-    ensures { result ≡ is_digit b }
+// The number that the cell says, unless it is larger than every allowance.
+pub fn number(cell: &[u8]) -> Option<u32>
+    ensures value { result ≡ small (number_in cell.now) }
+    ensures within { IfSome result (λ v. v ≤ most_allowance) }
 {
-    b'0' <= b && b <= b'9'
-}
-
-fn wide(b: u8) -> u32
-    ensures { result ≡ b }
-{
-    b as u32
-}
-
-fn cap(v: u32) -> u32
-    ensures { result ≡ capped (some v) }
-{
-    if v <= TOO_LARGE {
-        return v;
-    }
-    TOO_LARGE
-}
-
-// The number that the cell says. It is capped at each digit, so that no cell is too long.
-pub fn number(cell: &[u8]) -> u32
-    ensures { result ≡ capped (number_in cell.now) }
-{
-    if cell.len() == 0 {
-        return TOO_LARGE;
+    if cell.is_empty() {
+        return None;
     }
     let mut value = 0;
-    let mut i = 0;
-    while i < cell.len() {
-        if !is_digit(cell[i]) {
-            return TOO_LARGE;
+    for b in cell {
+        if !b.is_ascii_digit() {
+            return None;
         }
-        value = cap(10 * value + wide(cell[i] - b'0'));
-        i += 1;
+        value = 10 * value + u32::from(*b - b'0');
+        if TOO_LARGE <= value {
+            return None;
+        }
     }
-    value
+    Some(value)
 }

@@ -1,3 +1,4 @@
+pub mod Laid
 pub mod Ticks
 pub mod Parts
 pub mod Along

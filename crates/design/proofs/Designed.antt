@@ -1,9 +1,10 @@
 -- A text is a design, or has a first thing that is wrong.
 --   text_comes      what going over a text comes to
---   calm_held, wrong_lost   which of the two it is, by the mark `wrong`
+--   calm_held, wrong_lost   which of the two it is, by the wrong spot
 --   held_case       a text that is held is a design
 --   held_within, held_bytes   what is held of it lies in the buffer, and is what it says
 --   held_read       and its case is read of it
+--   values_ok       it is one
 --   lost_wrong      one that is not has a first thing that is wrong
 --   lost_none       and is no design
 -- Assumes nothing.
@@ -26,10 +27,14 @@ use Rattle.scan.specs.declared.State.TheVariants.{Start, Opening, Modulus, Size,
 use Rattle.scan.specs.Machine.{after, run, Viable}
 use Rattle.scan.proofs.Run.{Alive, viable_alive, viable_after, run_append}
 use Rattle.scan.proofs.Place.{over_case, viable_begins, begins_alive, place_dead}
-use Rattle.casefile.specs.Reading.{ReadIs}
+use Rattle.casefile.specs.Reading.{values_of, ReadIs}
 use Rattle.casefile.specs.declared.Contents.{Contents}
 use Rattle.casefile.proofs.AsRead.{ReadAs, read_case}
-use Rattle.spelling.specs.Trace.{Tracing, steps, started}
+use Rattle.std.specs.Prelude.{None, Some, Result, Ok, Err, IsOk}
+use Rattle.casefile.specs.declared.Case.{Case as Numbers}
+use Rattle.std.proofs.lemmas.Option.{none-some}
+use Rattle.spelling.specs.declared.Spot.{Spot as CodeSpot}
+use Rattle.spelling.specs.Trace.{spot_of, Tracing, steps, started}
 use Rattle.spelling.proofs.Outcome.{bytes_of, Held, Lost, Comes, held_start, steps_come}
 use Rattle.design.specs.Expecting.{expected_of}
 use Rattle.design.proofs.Reached.{Open, grounded_run, Reached, expects, expected, proper_due}
@@ -38,12 +43,12 @@ use Rattle.design.proofs.Ends.{is_over, Quiet, quiet_run, quiet_take, marked_end
 pub text_comes : {x : Tracing} (t o : List ℕ) → longest_case ≤ length o → x ≡ steps (started, o) (text_said t) → Comes o (text_said t) x
 text_comes t o h e = subst (Comes o (text_said t)) (sym e) (steps_come (started, o) [] (text_said t) h (held_start o))
 
-pub calm_held : {o : List ℕ} {xs : List Said} {x : Tracing} → Comes o xs x → x.0.wrong ≡ false → Held (bytes_of xs) o x
+pub calm_held : {o : List ℕ} {xs : List Said} {x : Tracing} → Comes o xs x → x.0.wrong ≡ None → Held (bytes_of xs) o x
 calm_held (inl H) e = H
-calm_held (inr L) e = absurd (true≢false (sym L.told ∙ e))
+calm_held (inr L) e = absurd (none-some _ (sym e ∙ L.told))
 
-pub wrong_lost : {o : List ℕ} {xs : List Said} {x : Tracing} → Comes o xs x → x.0.wrong ≡ true → Lost xs x
-wrong_lost (inl H) e = absurd (false≢true (sym H.calm ∙ e))
+pub wrong_lost : {o : List ℕ} {xs : List Said} {x : Tracing} {p : CodeSpot} → Comes o xs x → x.0.wrong ≡ Some p → Lost xs x
+wrong_lost (inl H) e = absurd (none-some _ (sym H.calm ∙ e))
 wrong_lost (inr L) e = L
 
 -- a text ends in the record E, and nothing in front of its end says that
@@ -101,6 +106,11 @@ held_read {r = r} t H R =
     let (c, I) = held_case t H in
     (c, I, read_case I (subst (λ s. ReadIs s r) (held_bytes t H) R))
 
+-- what is read as numbers is no refusal
+pub values_ok : {x : ℕ × ℕ × ℕ × ℕ} (a : Result Numbers ℕ) → values_of a ≡ Some x → IsOk a
+values_ok (Ok v) e = refl
+values_ok (Err k) e = absurd (none-some _ e)
+
 -- something may come where a byte is wrong
 lost_open : {x : Tracing} (t : List ℕ) → Lost (text_said t) x → Open x.0.state
 lost_open {x} t L =
@@ -116,7 +126,7 @@ lost_open {x} t L =
     ap is_over (sym L.scans.comes) ∙ ap (λ l. is_over (run Start l)) same ∙ quiet_run (take k before) (quiet_take 0 k before C.quiet) in
     (viable_alive L.scans.viable, λ h d. true≢false (sym (ap is_over d) ∙ open-still))
 
-pub lost_wrong : {x : Tracing} (t : List ℕ) → Lost (text_said t) x → FirstWrong t (spot_at x.0.line x.0.cell) (expected_of x.0.state)
+pub lost_wrong : {x : Tracing} (t : List ℕ) (L : Lost (text_said t) x) → FirstWrong t (spot_of L.spot) (expected_of x.0.state)
 unfolding bytes_said run
 lost_wrong {x} t L =
     let q = x.0.state in

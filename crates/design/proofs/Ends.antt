@@ -12,7 +12,7 @@ use mathlib.Core.Path.{◌≡◌, refl, sym, ap, subst, ◌∙◌}
 use mathlib.Core.Bool.{Bool, true, false, cond, false≢true}
 use mathlib.Core.Logic.{◌⊎◌, ⊎_elim}
 use mathlib.Core.List.{List, [], ◌∷◌, ◌++◌, map, map-append, append_assoc}
-use mathlib.Core.Option.{Option, none, some}
+use Rattle.std.specs.Prelude.{Option, None, Some}
 use Prim.Native.Nat.{ℕ, zero, suc, ◌+◌, ◌/◌, ◌%◌, ◌≤◌}
 use native.Mathlib.Omega.{arith}
 use lib.ListN.{take}
@@ -103,11 +103,11 @@ over_letter (Size p) b = only_ends (leb 1 b) (λ _. only_ends (leb b widest) (λ
 over_letter (Body h) b = only_ends (eqb b 255) (λ _. no_end (Body h) b (Letter h) refl)
 over_letter (Letter h) b =
     let P : State → Type 0 = EndsBy (Letter h) b in
-    let none : (k : Head) (bound left : ℕ) → P (Entries k bound left) = λ k bound left. no_end (Letter h) b (Entries k bound left) refl in
-    pick_each P (eqb b 65) (λ _. only_ends h.fresh (λ _. none _ _ _))
-    (λ _. pick_each P (eqb b 82) (λ _. only_ends (ltb h.count h.n) (λ _. none _ _ _))
+    let None : (k : Head) (bound left : ℕ) → P (Entries k bound left) = λ k bound left. no_end (Letter h) b (Entries k bound left) refl in
+    pick_each P (eqb b 65) (λ _. only_ends h.fresh (λ _. None _ _ _))
+    (λ _. pick_each P (eqb b 82) (λ _. only_ends (ltb h.count h.n) (λ _. None _ _ _))
     (λ _. only_ends (leb h.n h.count)
-    (λ _. pick_each P (eqb b 67) (λ _. only_ends (ltb h.count (h.n + most_candidates)) (λ _. none _ _ _))
+    (λ _. pick_each P (eqb b 67) (λ _. only_ends (ltb h.count (h.n + most_candidates)) (λ _. None _ _ _))
     (λ _. only_ends (eqb b 69) (λ e. record { ends = λ _. (refl, eqb-true b 69 e) })))))
 over_letter (Entries h bound left) b =
     let q : State = Entries h bound left in
@@ -206,14 +206,14 @@ no_byte_lem : NoMark (no_byte ∷ [])
 no_byte_lem = one_more no_byte (λ e. omega (arith, e)) none_left
 
 halves_no_mark : (o : Option ℕ) → NoMark (halves_in o)
-halves_no_mark none = no_byte_lem
-halves_no_mark (some v) =
+halves_no_mark None = no_byte_lem
+halves_no_mark (Some v) =
     cond_each NoMark (leb v most_allowance)
     (λ e. let h = leb-true v most_allowance e in one_more (v / radix) (λ f. omega (arith, f, h)) (one_more (v % radix) (λ f. omega (arith, f)) none_left)) (λ _. no_byte_lem)
 
 byte_no_mark : (o : Option ℕ) → NoMark (byte_in o ∷ [])
-byte_no_mark none = no_byte_lem
-byte_no_mark (some v) =
+byte_no_mark None = no_byte_lem
+byte_no_mark (Some v) =
     cond_each (λ b. NoMark (b ∷ [])) (ltb v no_byte) (λ e. let h = ltb-true v no_byte e in one_more v (λ f. omega (arith, f, h)) none_left) (λ _. no_byte_lem)
 
 cell_no_mark : (b : ℕ) (w : List ℕ) → NoMark (cell_bytes b w)

@@ -2,12 +2,14 @@
 --   fits-only       what is expected is known by the bytes that fit it
 --   first_only      there is one first thing that is wrong, and one thing was expected there
 --   code_of, code_back   the code's name for what was expected is known by what it means
+--   mistake_only    so is a mistake
 --   design_once     so there is one answer, and one content of its matrix and its candidates
 -- Assumes nothing.
 use mathlib.Core.Path.{◌≡◌, refl, sym, ap, subst, ◌∙◌, fun_ext}
 use mathlib.Core.Bool.{Bool, true, false, cond, false≢true}
 use mathlib.Core.List.{List, [], ◌∷◌, ◌++◌}
-use mathlib.Core.Option.{some, none-ne-some, some-injective}
+use Rattle.std.specs.Prelude.{Some, Result, Ok, Err}
+use Rattle.std.proofs.lemmas.Option.{none-some, same_Some}
 use Prim.Native.Nat.{ℕ, zero, suc, ◌+◌, ◌-◌, ◌≤◌}
 use native.Mathlib.Nat.{add-zero, add-suc}
 use native.Mathlib.Omega.{arith}
@@ -26,11 +28,11 @@ use Rattle.meaning.proofs.Place.{place_unique}
 use Rattle.meaning.proofs.CaseBytes.{case_unique}
 use Rattle.design.specs.declared.Expected.{Expected}
 use Rattle.design.specs.declared.Expected.TheVariants as expected
-use Rattle.design.specs.declared.Drawn.{Drawn}
-use Rattle.design.specs.declared.Drawn.TheVariants as drawn
+use Rattle.casefile.specs.declared.Case.{Case as Numbers}
+use Rattle.design.specs.declared.Mistake.{Mistake}
 use Rattle.design.specs.declared.Design.{Design}
 use Rattle.design.specs.Expecting.{expected_as}
-use Rattle.design.specs.Drawn.{drawn_of, wrong_of, DesignIs, drawn_case, wrong_spot}
+use Rattle.design.specs.Drawn.{drawn_of, mistake_of, wrong_of, DesignIs, drawn_case, wrong_spot}
 
 -- how many of the bytes below k fit
 counted : (ℕ → Bool) → ℕ → ℕ
@@ -128,20 +130,22 @@ code_back expected.Row = refl
 code_back expected.CandidateOrEnd = refl
 code_back expected.TextEnd = refl
 
-drawn_only : {v w : ℕ × ℕ × ℕ × ℕ} (a b : Drawn) → drawn_of a ≡ some v → drawn_of b ≡ some w → v ≡ w → a ≡ b
-drawn_only (drawn.Case p n c k) (drawn.Case q m d j) e f h =
-    let s = some-injective _ _ (e ∙ ap some h ∙ sym f) in
-    λ i. drawn.Case (s i).0 (s i).1 (s i).2 (s i).3
-drawn_only (drawn.Case p n c k) (drawn.Wrong j l y) e f h = absurd (none-ne-some _ f)
-drawn_only (drawn.Wrong i l x) b e f h = absurd (none-ne-some _ e)
+drawn_only : {v w : ℕ × ℕ × ℕ × ℕ} (a b : Result Numbers Mistake) → drawn_of a ≡ Some v → drawn_of b ≡ Some w → v ≡ w → a ≡ b
+drawn_only (Ok x) (Ok y) e f h =
+    let s = same_Some _ _ (e ∙ ap Some h ∙ sym f) in
+    λ i. Ok (record { p = (s i).0; n = (s i).1; allowance = (s i).2; count = (s i).3 })
+drawn_only (Ok x) (Err m) e f h = absurd (none-some _ f)
+drawn_only (Err m) b e f h = absurd (none-some _ e)
 
-wrong_only : {v w : Spot × meant.Expected} (a b : Drawn) → wrong_of a ≡ some v → wrong_of b ≡ some w → v ≡ w → a ≡ b
-wrong_only (drawn.Wrong i k x) (drawn.Wrong j l y) e f h =
-    let s = some-injective _ _ (e ∙ ap some h ∙ sym f) in
-    let same : x ≡ y = sym (code_back x) ∙ ap (λ t. code_of t.1) s ∙ code_back y in
-    λ m. drawn.Wrong (s m).0.line (s m).0.cell (same m)
-wrong_only (drawn.Wrong i k x) (drawn.Case p n c j) e f h = absurd (none-ne-some _ f)
-wrong_only (drawn.Case p n c k) b e f h = absurd (none-ne-some _ e)
+pub mistake_only : (a b : Mistake) → mistake_of a ≡ mistake_of b → a ≡ b
+mistake_only a b s =
+    let same : a.expected ≡ b.expected = sym (code_back a.expected) ∙ ap (λ t. code_of t.1) s ∙ code_back b.expected in
+    λ i. record { spot = record { line = (s i).0.line; cell = (s i).0.cell }; expected = same i }
+
+wrong_only : {v w : Spot × meant.Expected} (a b : Result Numbers Mistake) → wrong_of a ≡ Some v → wrong_of b ≡ Some w → v ≡ w → a ≡ b
+wrong_only (Err x) (Err y) e f h = ap Err (mistake_only x y (same_Some _ _ (e ∙ ap Some h ∙ sym f)))
+wrong_only (Err x) (Ok v) e f h = absurd (none-some _ f)
+wrong_only (Ok v) b e f h = absurd (none-some _ e)
 
 pub design_once : {t : List ℕ} (r s : Design) → DesignIs t r → DesignIs t s → r ≡ s
 design_once r s (drawn_case c I v m cs) (drawn_case d K w n ds) =

@@ -6,10 +6,11 @@ ghost use Rattle.design.specs.Drawn.{DesignIs, MadeIs};
 ghost use Rattle.scan.specs.declared.State.TheVariants.{Letter};
 ghost use Rattle.design.specs.Expecting.{expected_as, expected_of};
 
-use casefile::Reading;
+use casefile::{Case, Contents};
 use meaning::{CANDIDATE_ROOM, LONGEST_CASE, MATRIX_ROOM, MOST_CANDIDATES, RADIX};
+use reasons::Reason;
 use scan::{Head, State};
-use writer::Written;
+use spelling::Spot;
 
 // What may come at a spot of a text. An entry is below the prime.
 #[derive(Clone, Copy)]
@@ -26,40 +27,20 @@ pub enum Expected {
     TextEnd,
 }
 
-// What a text is: the numbers of its case, count the number of candidates; or the spot of the first thing that is wrong, line and cell counted from 1,
-// and what was expected there.
+// The first thing that is wrong in a text: its spot, and what was expected there.
 #[derive(Clone, Copy)]
-pub enum Drawn {
-    Case {
-        p: u32,
-        n: usize,
-        allowance: u32,
-        count: usize,
-    },
-    Wrong {
-        line: usize,
-        cell: usize,
-        expected: Expected,
-    },
+pub struct Mistake {
+    pub spot: Spot,
+    pub expected: Expected,
 }
 
-// The answer; the matrix, row after row, n·n bytes; the candidates, n bytes each. Zeros behind these, and zeros alone where something is wrong.
+// The numbers of the case, or the first thing that is wrong; the matrix, row after row, n·n bytes; the candidates, n bytes each. Zeros behind these, and
+// zeros alone where something is wrong: what the arrays hold then is promised too, so they stand beside the answer and not in it.
 #[derive(Drop)]
 pub struct Design {
-    pub answer: Drawn,
+    pub answer: Result<Case, Mistake>,
     pub matrix: [u8; MATRIX_ROOM],
     pub candidates: [u8; CANDIDATE_ROOM],
-}
-
-// What was made of a text: what the writer answered for its values, or the first thing that is wrong.
-#[derive(Clone, Copy)]
-pub enum Made {
-    Case(Written),
-    Wrong {
-        line: usize,
-        cell: usize,
-        expected: Expected,
-    },
 }
 
 // The words that may come where a line begins.
@@ -67,17 +48,18 @@ pub enum Made {
 fn due_word(h: Head) -> Expected
     ensures { expected_as result ≡ expected_of (Letter h) }
 {
-    let rows = h.n as u32;
+    let rows = u32::from(h.n);
     if h.count < rows {
         if h.fresh {
-            return Expected::AllowanceOrRow;
+            Expected::AllowanceOrRow
+        } else {
+            Expected::Row
         }
-        return Expected::Row;
+    } else if h.count < rows + MOST_CANDIDATES as u32 {
+        Expected::CandidateOrEnd
+    } else {
+        Expected::TextEnd
     }
-    if h.count < rows + MOST_CANDIDATES as u32 {
-        return Expected::CandidateOrEnd;
-    }
-    Expected::TextEnd
 }
 
 // What may come in a state of the scan. Nothing comes behind E, and a text says no such state before its end.
@@ -90,105 +72,47 @@ fn due(q: State) -> Expected
         State::Modulus => Expected::Prime,
         State::Size(_) => Expected::Size,
         State::Letter(h) => due_word(h),
-        State::Entries {
-            head: _,
-            bound,
-            left: _,
-        } => {
-            if bound as u32 == RADIX {
-                return Expected::Allowance;
-            }
-            Expected::Entry(bound)
-        }
+        State::Entries { bound, .. } if u32::from(bound) == RADIX => Expected::Allowance,
+        State::Entries { bound, .. } => Expected::Entry(bound),
         _ => Expected::LineEnd,
     }
 }
 
-// A text taken to the values of its case, or to the first thing that is wrong.
+// A text taken to the values of its case, or to the first thing that is wrong. Bytes that begin a case up to the end of the text are one, so reading them
+// gives its numbers.
 pub fn read(text: &[u8]) -> Design
     ensures { DesignIs text.now result }
 {
     let mut bytes = [0u8; LONGEST_CASE];
     let trace = spelling::spell(text, &mut bytes);
-    let state = trace.state;
-    let expected = due(state);
-    let wrong = Drawn::Wrong {
-        line: trace.line,
-        cell: trace.cell,
-        expected,
-    };
-    if trace.wrong {
+    if let Some(spot) = trace.wrong {
+        let expected = due(trace.state);
         return Design {
-            answer: wrong,
+            answer: Err(Mistake { spot, expected }),
             matrix: [0u8; MATRIX_ROOM],
             candidates: [0u8; CANDIDATE_ROOM],
         };
     }
-    let size = trace.count;
-    let contents = casefile::read(&bytes[..size]);
-    let matrix = contents.matrix;
-    let candidates = contents.candidates;
-    let answer = contents.answer;
-    match answer {
-        Reading::Case {
-            p,
-            n,
-            allowance,
-            count,
-        } => Design {
-            answer: Drawn::Case {
-                p,
-                n,
-                allowance,
-                count,
-            },
-            matrix,
-            candidates,
-        },
-        // bytes that begin a case up to the end of the text are one, so this is not reached
-        Reading::Refused(_) => Design {
-            answer: wrong,
-            matrix,
-            candidates,
-        },
+    let Contents {
+        answer,
+        matrix,
+        candidates,
+    } = casefile::read(&bytes[..trace.count]);
+    Design {
+        answer: Ok(answer.unwrap()),
+        matrix,
+        candidates,
     }
 }
 
-// The case of a text at the front of `out`, its A record always written out; nothing is written where something is wrong.
-pub fn make(text: &[u8], out: &mut [u8]) -> Made
+// The case of a text at the front of `out`, its A record always written out: what the writer answers for its values, or the first thing that is wrong, and
+// then nothing is written.
+pub fn make(text: &[u8], out: &mut [u8]) -> Result<Result<usize, Reason>, Mistake>
     ensures { MadeIs text.now out.old result out.new }
 {
     let design = read(text);
-    let matrix = design.matrix;
-    let candidates = design.candidates;
-    let answer = design.answer;
-    match answer {
-        Drawn::Case {
-            p,
-            n,
-            allowance,
-            count,
-        } => {
-            let entries = n * n;
-            let listed = count * n;
-            let wrote = writer::write(
-                p,
-                n,
-                &matrix[..entries],
-                &candidates[..listed],
-                allowance,
-                out,
-            );
-            Made::Case(wrote)
-        }
-        Drawn::Wrong {
-            line,
-            cell,
-            expected,
-        } => Made::Wrong {
-            line,
-            cell,
-            expected,
-        },
-    }
+    let case = design.answer?;
+    let matrix = &design.matrix[..case.n * case.n];
+    let candidates = &design.candidates[..case.count * case.n];
+    Ok(writer::write(case.p, case.n, matrix, candidates, case.allowance, out))
 }

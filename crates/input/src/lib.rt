@@ -2,56 +2,43 @@
 // one over memory, the contract says which are read; which bytes the system gives no contract can say.
 #![tactic(auto)]
 
-ghost use Rattle.std.specs.Prelude.{◌≡◌, ◌<◌, ◌≤◌, length, take, ◌↔◌, Some, IsOk, IfOk, IfErr, IsNone};
+ghost use Rattle.std.specs.Prelude.{◌≡◌, ◌<◌, ◌≤◌, length, take, MatchResult, IfOk};
 ghost use Rattle.std.specs.Io.KnownBytes.{Consumes, IsAtEnd};
 
 use std::io;
 use std::io::Read;
 
-// How many bytes lie at the front of the buffer; `failure` says why a read failed, where one did.
+// Why a read failed, and how many bytes lie at the front of the buffer nevertheless.
 #[derive(Drop)]
-pub struct Input {
-    pub failure: Option<io::Error>,
+pub struct ReadFailure {
+    pub error: io::Error,
     pub count: usize,
 }
 
-impl Input {
-    // How many bytes there are, if no read failed.
-    pub fn whole(self) -> io::Result<usize>
-        ensures count { IfOk result (λ n. n ≡ self.count) }
-        ensures ok { IsOk result ↔ IsNone self.failure }
-        ensures err { IfErr result (λ e. self.failure ≡ Some e) }
-    {
-        match self.failure {
-            Some(error) => Err(error),
-            None => Ok(self.count),
-        }
+impl From<ReadFailure> for io::Error {
+    ghost from_gives = { λ failure error. error ≡ failure.error };
+
+    fn from(failure: ReadFailure) -> io::Error {
+        failure.error
     }
 }
 
-// Reads until the buffer is full, the input is over or a read fails.
-pub fn read_all<R: Read>(from: &mut R, buf: &mut [u8]) -> Input
-    ensures in_bounds { result.count ≤ length buf.new }
-    ensures bytes { Consumes (R.remaining from.old) (R.remaining from.new) (take result.count buf.new) }
-    ensures over { IsNone result.failure → result.count < length buf.new → IsAtEnd (R.remaining from.new) }
+// Reads until the buffer is full, the input is over or a read fails. Answers how many bytes lie at the front of the buffer.
+pub fn read_all<R: Read>(from: &mut R, buf: &mut [u8]) -> Result<usize, ReadFailure>
+    ensures in_bounds { MatchResult result (λ n. n ≤ length buf.new) (λ e. e.count ≤ length buf.new) }
+    ensures bytes { MatchResult result (λ n. Consumes (R.remaining from.old) (R.remaining from.new) (take n buf.new))
+        (λ e. Consumes (R.remaining from.old) (R.remaining from.new) (take e.count buf.new)) }
+    ensures over { IfOk result (λ n. n < length buf.new → IsAtEnd (R.remaining from.new)) }
 {
-    let mut done = 0;
-    while done < buf.len() {
-        match from.read(&mut buf[done..]) {
+    let mut count = 0;
+    while count < buf.len() {
+        match from.read(&mut buf[count..]) {
             Ok(0) => break,
-            Ok(more) => done += more,
-            Err(error) => {
-                return Input {
-                    failure: Some(error),
-                    count: done,
-                };
-            }
+            Ok(more) => count += more,
+            Err(error) => return Err(ReadFailure { error, count }),
         }
     }
-    Input {
-        failure: None,
-        count: done,
-    }
+    Ok(count)
 }
 
 // Writes a line to standard error: what failed, a colon and why.

@@ -15,7 +15,7 @@
 --   inverse_read, order_read, image_read, stand_read, chain_read, period_read, sheet_read, write_read   the answer of each call, read off what its function returns
 -- Assumes nothing.
 use Rattle.std.specs.Prelude.{◌≡◌, Bool, true, false, ◌||◌, cond, List, [], ◌∷◌, ℕ, zero, suc, eqb}
-use Rattle.std.proofs.Math.Option.{Option, none, some}
+use Rattle.std.specs.Prelude.{Option, None, Some}
 use Rattle.meaning.specs.Stand.{Standing, proved, short, Outcome}
 use Rattle.meaning.specs.Refusal.{Refusal, alone, at}
 use Rattle.meaning.specs.Calls.{Answer, refused, given}
@@ -55,11 +55,11 @@ abbrev pub no_inverse : ℕ
 no_inverse = 255
 
 abbrev pub inverse_in : ℕ → Option ℕ
-inverse_in x = cond (eqb x no_inverse) none (some x)
+inverse_in x = cond (eqb x no_inverse) None (Some x)
 
 abbrev pub period_in : ℕ → Option ℕ
-period_in zero = none
-period_in (suc t) = some (suc t)
+period_in zero = None
+period_in (suc t) = Some (suc t)
 
 abbrev pub inverse_read : InverseAnswer → Answer (Option ℕ)
 inverse_read r = read_as r.refusal (inverse_in r.inverse)

@@ -3,20 +3,18 @@
 // kinarsop_c exports these functions to C, each under its name and with its clauses.
 #![tactic(auto)]
 
-ghost use Rattle.std.specs.Prelude.{◌≡◌, [], ◌∷◌};
+ghost use Rattle.std.specs.Prelude.{◌≡◌, ◌≢◌, [], ◌∷◌};
 ghost use Rattle.meaning.specs.Calls.{given, InverseCall, OrderCall, ImageCall, StandCall, ChainCall, PeriodCall};
 ghost use Rattle.meaning.specs.Sheet.{SheetCall};
 ghost use Rattle.meaning.specs.Writing.{WriteCall};
 ghost use Rattle.meaning.specs.Refusal.{alone as numbered};
-ghost use Rattle.reasons.specs.Reasons.{numbers_of};
+ghost use Rattle.reasons.specs.Reasons.{answer_of, numbers_of};
 ghost use Rattle.calls.specs.Answers.{counted_as};
-ghost use Rattle.kinarsop.specs.Face.{Alone, standing_in, inverse_read, order_read, image_read, stand_numbers, stand_read, chain_read, period_read, sheet_read};
+ghost use Rattle.kinarsop.specs.Face.{read_as, Alone, Placeless, standing_in, inverse_read, order_read, image_read, stand_numbers, stand_read, chain_read, period_read, sheet_read};
 ghost use Rattle.kinarsop.specs.Face.{write_read};
 
-use calls::{Chained, Counts, Imaged, Inverted, Ordered, Perioded, Stood};
-use reasons::Numbers;
-use sheet::Sheeted;
-use writer::Written;
+use calls::{Counts, Stood};
+use reasons::{Numbers, Reason};
 
 // The number of an answered call.
 const ANSWERED: u8 = 0;
@@ -84,7 +82,19 @@ pub struct WriteAnswer {
 fn answered() -> Numbers
     ensures { result ≡ numbers_of (numbered 0) }
 {
-    reasons::alone(ANSWERED)
+    Numbers::alone(ANSWERED)
+}
+
+// The numbers of an answer, and beside them its result, or `refused` where there is none.
+fn told<T: Copy>(answer: Result<T, Reason>, refused: T) -> (Numbers, T)
+    ensures read { read_as result.0 result.1 ≡ answer_of answer }
+    ensures placeless { Placeless result.0 }
+    ensures alone { result.0.number ≢ 0 → result.1 ≡ refused }
+{
+    match answer {
+        Ok(given) => (answered(), given),
+        Err(reason) => (reason.into(), refused),
+    }
 }
 
 // `calls::inverse`.
@@ -92,19 +102,10 @@ pub fn kinarsop_inverse(p: u32, a: u32) -> InverseAnswer
     ensures inverse_call { InverseCall p a (inverse_read result) }
     ensures alone { Alone result.refusal (result.inverse ∷ []) }
 {
-    match calls::inverse(p, a) {
-        Inverted::Inverse(inverse) => InverseAnswer {
-            refusal: answered(),
-            inverse: inverse,
-        },
-        Inverted::None => InverseAnswer {
-            refusal: answered(),
-            inverse: NO_INVERSE,
-        },
-        Inverted::Refused(reason) => InverseAnswer {
-            refusal: reasons::as_numbers(reason),
-            inverse: 0,
-        },
+    let (refusal, inverse) = told(calls::inverse(p, a), Some(0));
+    InverseAnswer {
+        refusal,
+        inverse: inverse.unwrap_or(NO_INVERSE),
     }
 }
 
@@ -113,16 +114,8 @@ pub fn kinarsop_order(p: u32, n: usize, m: &[u8], v: &[u8], out: &mut [u8]) -> O
     ensures order_call { OrderCall p n m.now v.now out.old (order_read result) out.new }
     ensures alone { Alone result.refusal (result.degree ∷ []) }
 {
-    match calls::order(p, n, m, v, out) {
-        Ordered::Degree(degree) => OrderAnswer {
-            refusal: answered(),
-            degree: degree,
-        },
-        Ordered::Refused(reason) => OrderAnswer {
-            refusal: reasons::as_numbers(reason),
-            degree: 0,
-        },
-    }
+    let (refusal, degree) = told(calls::order(p, n, m, v, out), 0);
+    OrderAnswer { refusal, degree }
 }
 
 // `calls::image`: what is returned is the refusal alone, its number 0 where the image is written to `out`.
@@ -130,10 +123,8 @@ pub fn kinarsop_image(p: u32, n: usize, m: &[u8], v: &[u8], f: &[u8], out: &mut 
     ensures image_call { ImageCall p n m.now v.now f.now out.old (image_read result) out.new }
     ensures alone { Alone result [] }
 {
-    match calls::image(p, n, m, v, f, out) {
-        Imaged::Written => answered(),
-        Imaged::Refused(reason) => reasons::as_numbers(reason),
-    }
+    let (refusal, ()) = told(calls::image(p, n, m, v, f, out), ());
+    refusal
 }
 
 // The answer of a stand that is not refused.
@@ -143,11 +134,11 @@ fn counted(proved: bool, counts: Counts, witness: usize) -> StandAnswer
 {
     StandAnswer {
         refusal: answered(),
-        proved: proved,
+        proved,
         degree: counts.degree,
         taken: counts.taken,
         spent: counts.spent,
-        witness: witness,
+        witness,
     }
 }
 
@@ -165,10 +156,10 @@ pub fn kinarsop_stand(
     ensures alone { Alone result.refusal (stand_numbers result) }
 {
     match calls::stand(p, n, m, cs, allowance, poly, image) {
-        Stood::Proved(counts) => counted(true, counts, 0),
-        Stood::Short(counts, witness) => counted(false, counts, witness),
-        Stood::Refused(reason) => StandAnswer {
-            refusal: reasons::as_numbers(reason),
+        Ok(Stood::Proved(counts)) => counted(true, counts, 0),
+        Ok(Stood::Short(counts, witness)) => counted(false, counts, witness),
+        Err(reason) => StandAnswer {
+            refusal: reason.into(),
             proved: false,
             degree: 0,
             taken: 0,
@@ -190,15 +181,10 @@ pub fn kinarsop_chain(
     ensures chain_call { ChainCall p n m.now cs.now (product.old, stages.old) (chain_read result) (product.new, stages.new) }
     ensures alone { Alone result.refusal (result.stages ∷ []) }
 {
-    match calls::chain(p, n, m, cs, product, stages) {
-        Chained::Stages(count) => ChainAnswer {
-            refusal: answered(),
-            stages: count,
-        },
-        Chained::Refused(reason) => ChainAnswer {
-            refusal: reasons::as_numbers(reason),
-            stages: 0,
-        },
+    let (refusal, count) = told(calls::chain(p, n, m, cs, product, stages), 0);
+    ChainAnswer {
+        refusal,
+        stages: count,
     }
 }
 
@@ -207,19 +193,10 @@ pub fn kinarsop_period(p: u32, n: usize, m: &[u8]) -> PeriodAnswer
     ensures period_call { PeriodCall p n m.now (period_read result) }
     ensures alone { Alone result.refusal (result.period ∷ []) }
 {
-    match calls::period(p, n, m) {
-        Perioded::Least(t) => PeriodAnswer {
-            refusal: answered(),
-            period: t,
-        },
-        Perioded::Never => PeriodAnswer {
-            refusal: answered(),
-            period: 0,
-        },
-        Perioded::Refused(reason) => PeriodAnswer {
-            refusal: reasons::as_numbers(reason),
-            period: 0,
-        },
+    let (refusal, period) = told(calls::period(p, n, m), None);
+    PeriodAnswer {
+        refusal,
+        period: period.unwrap_or(0),
     }
 }
 
@@ -228,16 +205,8 @@ pub fn kinarsop_sheet(file: &[u8], out: &mut [u8]) -> SheetAnswer
     ensures sheet_call { SheetCall file.now out.old (sheet_read result) out.new }
     ensures alone { Alone result.refusal (result.length ∷ []) }
 {
-    match sheet::sheet(file, out) {
-        Sheeted::Length(length) => SheetAnswer {
-            refusal: answered(),
-            length: length,
-        },
-        Sheeted::Refused(reason) => SheetAnswer {
-            refusal: reasons::as_numbers(reason),
-            length: 0,
-        },
-    }
+    let (refusal, length) = told(sheet::sheet(file, out), 0);
+    SheetAnswer { refusal, length }
 }
 
 // `writer::write`: how many bytes of `out` are the case.
@@ -252,14 +221,6 @@ pub fn kinarsop_write(
     ensures write_call { WriteCall p n m.now cs.now allowance out.old (write_read result) out.new }
     ensures alone { Alone result.refusal (result.length ∷ []) }
 {
-    match writer::write(p, n, m, cs, allowance, out) {
-        Written::Length(length) => WriteAnswer {
-            refusal: answered(),
-            length: length,
-        },
-        Written::Refused(reason) => WriteAnswer {
-            refusal: reasons::as_numbers(reason),
-            length: 0,
-        },
-    }
+    let (refusal, length) = told(writer::write(p, n, m, cs, allowance, out), 0);
+    WriteAnswer { refusal, length }
 }

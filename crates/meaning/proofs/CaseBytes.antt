@@ -6,7 +6,7 @@
 -- Assumes nothing.
 use mathlib.Core.Path.{◌≡◌, refl, sym, ap, ap₂, subst₂, ◌∙◌}
 use mathlib.Core.List.{List, [], ◌∷◌, ◌++◌, map}
-use mathlib.Core.Option.{Option, none, some}
+use Rattle.std.specs.Prelude.{Option, None, Some}
 use Prim.Native.Nat.{ℕ, suc, ◌+◌, ◌*◌, ◌≤◌}
 use native.Mathlib.Nat.{mul-le-mul, zero-mul, suc-mul}
 use native.Mathlib.Omega.{arith}
@@ -40,8 +40,8 @@ candidate_flat_length = marked-flat_length candidate 67 (λ l. refl)
 -- the A record has four bytes, where there is one
 allow_most : (a : Option (ℕ × ℕ)) → length (flat (allow_record a)) ≤ 4
 unfolding flat record_bytes
-allow_most none = omega arith
-allow_most (some a) = omega arith
+allow_most None = omega arith
+allow_most (Some a) = omega arith
 
 pub parts_length : (p n : ℕ) (a : Option (ℕ × ℕ)) (xs ys : List (List ℕ)) → RowsOf p n xs → RowsOf p n ys
     → length (flat (field p n ∷ (allow_record a ++ (map row xs ++ (map candidate ys ++ (end ∷ []))))))
@@ -110,10 +110,10 @@ rows_letter (x ∷ xs) t h = refl
 allow_same : (a b : Option (ℕ × ℕ)) (t u : List Record) → get_or (flat t) 1 0 ≡ 82 → get_or (flat u) 1 0 ≡ 82
     → flat (allow_record a ++ t) ≡ flat (allow_record b ++ u) → (a ≡ b) × (flat t ≡ flat u)
 unfolding flat record_bytes
-allow_same none none t u h k e = (refl, e)
-allow_same none (some b) t u h k e = let q : get_or (flat t) 1 0 ≡ 65 = ap (λ l. get_or l 1 0) e in absurd (omega arith)
-allow_same (some a) none t u h k e = let q : 65 ≡ get_or (flat u) 1 0 = ap (λ l. get_or l 1 0) e in absurd (omega arith)
-allow_same (some a) (some b) t u h k e = (ap (λ l. some (get_or l 2 0, get_or l 3 0)) e, ap (drop 4) e)
+allow_same None None t u h k e = (refl, e)
+allow_same None (Some b) t u h k e = let q : get_or (flat t) 1 0 ≡ 65 = ap (λ l. get_or l 1 0) e in absurd (omega arith)
+allow_same (Some a) None t u h k e = let q : 65 ≡ get_or (flat u) 1 0 = ap (λ l. get_or l 1 0) e in absurd (omega arith)
+allow_same (Some a) (Some b) t u h k e = (ap (λ l. Some (get_or l 2 0, get_or l 3 0)) e, ap (drop 4) e)
 
 pub case_unique : {s : List ℕ} {c d : Case} → IsCase s c → IsCase s d → c ≡ d
 unfolding case_bytes records flat record_bytes

@@ -19,7 +19,9 @@
 -- Assumes nothing.
 use mathlib.Core.Path.{◌≡◌, refl, sym, ap, ap₂, ◌∙◌, subst}
 use mathlib.Core.List.{List, [], ◌∷◌}
-use mathlib.Core.Option.{none, some, map, none-ne-some, some-injective, map-eq-none_iff, map-eq-some_iff}
+use Rattle.std.specs.Prelude.{None, Some, option_map}
+use Rattle.std.proofs.lemmas.Option.{none-some, same_Some}
+use Rattle.meaning.proofs.Options.{mapped_none, mapped_some}
 use mathlib.Core.Logic.{◌⊎◌, inl, inr}
 use Prim.Native.Nat.{ℕ, zero, suc, ◌+◌, ◌*◌, ◌-◌, ◌/◌, ◌%◌, ◌<◌, ◌≤◌, suc-le-suc}
 use native.Mathlib.Nat.{not-suc-le-zero, le_of_suc-le-suc, zero-lt-suc, mod-lt, mod-eq_of_lt, div-eq_of_lt, div-add-mod', mul-add-div_right, mul-add-mod_self_right, mul-le-mul, le_refl, add-zero}
@@ -44,23 +46,23 @@ bad_at_later {p} {x} {i} {l} h B = record { within = suc-le-suc B.within; bad = 
     before zero k = h
     before (suc j) k = B.before j (le_of_suc-le-suc k)
 
-pub first_bad_at : (p : ℕ) (l : List ℕ) (i : ℕ) → BadAt p l i → first_bad p l ≡ some i
+pub first_bad_at : (p : ℕ) (l : List ℕ) (i : ℕ) → BadAt p l i → first_bad p l ≡ Some i
 unfolding first_bad
 first_bad_at p [] i B = absurd (not-suc-le-zero B.within)
 first_bad_at p (x ∷ l) zero B = rw (le-leb p x B.bad, first_bad)
 first_bad_at p (x ∷ l) (suc i) B =
     rw (lt-leb p x (B.before 0 (zero-lt-suc i)), first_bad)
-    (ap (map suc) (first_bad_at p l i (record {
+    (ap (option_map suc) (first_bad_at p l i (record {
       within = le_of_suc-le-suc B.within;
       bad = B.bad;
       before = λ j k. B.before (suc j) (suc-le-suc k);
     })))
 
-pub first_bad_small : (p : ℕ) (l : List ℕ) → ((i : ℕ) → i < length l → get_or l i 0 < p) → first_bad p l ≡ none
+pub first_bad_small : (p : ℕ) (l : List ℕ) → ((i : ℕ) → i < length l → get_or l i 0 < p) → first_bad p l ≡ None
 unfolding first_bad
 first_bad_small p [] h = refl
 first_bad_small p (x ∷ l) h =
-    rw (lt-leb p x (h 0 (zero-lt-suc _)), first_bad) (ap (map suc) (first_bad_small p l (λ i k. h (suc i) (suc-le-suc k))))
+    rw (lt-leb p x (h 0 (zero-lt-suc _)), first_bad) (ap (option_map suc) (first_bad_small p l (λ i k. h (suc i) (suc-le-suc k))))
 
 -- there is such a place or there is none
 small_or_bad : (p : ℕ) (l : List ℕ) → Small p l ⊎ ((i : ℕ) × BadAt p l i)
@@ -75,18 +77,18 @@ small_or_bad p (x ∷ l) =
           ]
     ]
 
-pub first_bad_place : (p : ℕ) (l : List ℕ) (i : ℕ) → first_bad p l ≡ some i → BadAt p l i
+pub first_bad_place : (p : ℕ) (l : List ℕ) (i : ℕ) → first_bad p l ≡ Some i → BadAt p l i
 first_bad_place p l i q =
     elim (small_or_bad p l) [
-      | inl s ↦ absurd (none-ne-some i (sym (first_bad_small p l (small_at p l s)) ∙ q))
+      | inl s ↦ absurd (none-some i (sym (first_bad_small p l (small_at p l s)) ∙ q))
       | inr b ↦ subst (λ j. BadAt p l j) (cc (first_bad_at p l b.0 b.1)) b.1
     ]
 
-pub first_bad_none : (p : ℕ) (l : List ℕ) → first_bad p l ≡ none → Small p l
+pub first_bad_none : (p : ℕ) (l : List ℕ) → first_bad p l ≡ None → Small p l
 first_bad_none p l q =
     elim (small_or_bad p l) [
       | inl s ↦ s
-      | inr b ↦ absurd (none-ne-some b.0 (sym q ∙ first_bad_at p l b.0 b.1))
+      | inr b ↦ absurd (none-some b.0 (sym q ∙ first_bad_at p l b.0 b.1))
     ]
 
 -- cells: a place is told by its cell, and the cell by the place
@@ -147,9 +149,9 @@ before_read {top} {n} c d I J h =
     ]
 
 -- the answer of `bad_cell`
-pub bad_cell_at : (top p n : ℕ) (l : List ℕ) {i : ℕ} → first_bad p l ≡ some i → bad_cell top p n l ≡ some (cell_at top n i)
+pub bad_cell_at : (top p n : ℕ) (l : List ℕ) {i : ℕ} → first_bad p l ≡ Some i → bad_cell top p n l ≡ Some (cell_at top n i)
 unfolding bad_cell
-bad_cell_at top p n l e = ap (map (cell_at top n)) e
+bad_cell_at top p n l e = ap (option_map (cell_at top n)) e
 
 first_at : (top p n i : ℕ) (l : List ℕ) → 0 < n → BadAt p l i → FirstBad top p n l (cell_at top n i)
 first_at top p n i l h B =
@@ -161,10 +163,10 @@ first_at top p n i l h B =
       good_before = λ d J r. B.before _ (subst (λ j. entries_before top n d < j) e (read_before d (cell_at top n i) J I r));
     }
 
-pub bad_first : (top p n : ℕ) (l : List ℕ) (c : Cell) → 0 < n → bad_cell top p n l ≡ some c → FirstBad top p n l c
+pub bad_first : (top p n : ℕ) (l : List ℕ) (c : Cell) → 0 < n → bad_cell top p n l ≡ Some c → FirstBad top p n l c
 unfolding bad_cell
 bad_first top p n l c h q =
-    let (i, e, f) = (map-eq-some_iff (cell_at top n) (first_bad p l)).0 q in
+    let (i, e, f) = mapped_some (cell_at top n) (first_bad p l) q in
     subst (FirstBad top p n l) f (first_at top p n i l h (first_bad_place p l i e))
 
 at_first : {top p n : ℕ} {l : List ℕ} (c : Cell) → FirstBad top p n l c → BadAt p l (entries_before top n c)
@@ -180,19 +182,19 @@ at_first {top} {p} {n} {l} c F = record { within = I.inside; bad = F.bad; before
         let J = cell_in top n j l h (omega (arith, k, I.inside)) in
         subst (λ i. get_or l i 0 < p) e (F.good_before (cell_at top n j) J (before_read (cell_at top n j) c J I (rw e k)))
 
-pub first_bad_lem : (top p n : ℕ) (l : List ℕ) (c : Cell) → FirstBad top p n l c → bad_cell top p n l ≡ some c
-first_bad_lem top p n l c F = bad_cell_at top p n l (first_bad_at p l _ (at_first c F)) ∙ ap some (cell_before c F.in_rows)
+pub first_bad_lem : (top p n : ℕ) (l : List ℕ) (c : Cell) → FirstBad top p n l c → bad_cell top p n l ≡ Some c
+first_bad_lem top p n l c F = bad_cell_at top p n l (first_bad_at p l _ (at_first c F)) ∙ ap Some (cell_before c F.in_rows)
 
 pub first_unique : {top p n : ℕ} {l : List ℕ} {c d : Cell} → FirstBad top p n l c → FirstBad top p n l d → c ≡ d
-first_unique {top} {p} {n} {l} {c} {d} F G = some-injective c d (sym (first_bad_lem top p n l c F) ∙ first_bad_lem top p n l d G)
+first_unique {top} {p} {n} {l} {c} {d} F G = same_Some c d (sym (first_bad_lem top p n l c F) ∙ first_bad_lem top p n l d G)
 
-pub bad_cell_none : (top p n : ℕ) (l : List ℕ) → bad_cell top p n l ≡ none → Small p l
+pub bad_cell_none : (top p n : ℕ) (l : List ℕ) → bad_cell top p n l ≡ None → Small p l
 unfolding bad_cell
-bad_cell_none top p n l q = first_bad_none p l ((map-eq-none_iff (cell_at top n) (first_bad p l)).0 q)
+bad_cell_none top p n l q = first_bad_none p l (mapped_none (cell_at top n) (first_bad p l) q)
 
-pub small_bad_cell : (top p n : ℕ) (l : List ℕ) → Small p l → bad_cell top p n l ≡ none
+pub small_bad_cell : (top p n : ℕ) (l : List ℕ) → Small p l → bad_cell top p n l ≡ None
 unfolding bad_cell
-small_bad_cell top p n l h = ap (map (cell_at top n)) (first_bad_small p l (small_at p l h))
+small_bad_cell top p n l h = ap (option_map (cell_at top n)) (first_bad_small p l (small_at p l h))
 
 -- where the first bad cell is
 pub row_within : {p n k : ℕ} {l : List ℕ} (c : Cell) → FirstBad 1 p n l c → length l ≡ k * n → c.row ≤ k
@@ -204,9 +206,9 @@ row_within {n = n} {k = k} c F e =
           absurd (omega (arith, far, e, F.in_rows.inside))
     ]
 
-pub bad_coefficient_lem : (p : ℕ) (f : List ℕ) (c : Cell) → bad_cell 0 p (length f) f ≡ some c → FirstBad 0 p (length f) f c
+pub bad_coefficient_lem : (p : ℕ) (f : List ℕ) (c : Cell) → bad_cell 0 p (length f) f ≡ Some c → FirstBad 0 p (length f) f c
 unfolding bad_cell first_bad
-bad_coefficient_lem p [] c e = absurd (none-ne-some c e)
+bad_coefficient_lem p [] c e = absurd (none-some c e)
 bad_coefficient_lem p (x ∷ f) c e = bad_first 0 p (suc (length f)) (x ∷ f) c (zero-lt-suc _) e
 
 pub coefficient_row : {p : ℕ} {f : List ℕ} (c : Cell) → FirstBad 0 p (length f) f c → c.row ≡ 0

@@ -1,6 +1,7 @@
 pub mod Bytes
 pub mod Entries
 pub mod Written
+pub mod Options
 pub mod Entry
 pub mod Refusal
 pub mod Called

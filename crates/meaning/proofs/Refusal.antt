@@ -27,7 +27,9 @@ use mathlib.Core.Path.{◌≡◌, refl, sym, ap, ◌∙◌}
 use mathlib.Core.Logic.{⊎_elim}
 use mathlib.Core.Bool.{Bool, true, false, not, ◌&&◌, ◌||◌, true≢false, and-eq-true_iff}
 use mathlib.Core.List.{List, [], ◌∷◌, ◌++◌}
-use mathlib.Core.Option.{Option, none, some, none-ne-some, map-eq-none_iff}
+use Rattle.std.specs.Prelude.{Option, None, Some}
+use Rattle.std.proofs.lemmas.Option.{none-some}
+use Rattle.meaning.proofs.Options.{mapped_none}
 use Prim.Native.Nat.{ℕ, zero, suc, ◌+◌, ◌*◌, ◌/◌, ◌%◌, ◌<◌, ◌≤◌}
 use native.Mathlib.Nat.{add-zero, le_refl, le_step, le_of_suc-le-suc, not-suc-le-zero, eq-or-lt_of_le, div-add-mod', mul-mod_left, div-eq_of_eq-mul_left}
 use native.Mathlib.Decide.{dec_le}
@@ -187,91 +189,91 @@ unfolding too_short
 too_short_true k out h = lt-ltb (length out) k h
 
 -- what a test gives
-pub refuse_here : {k : ℕ} {b : Bool} → b ≡ true → refuse k b ≡ some (alone k)
+pub refuse_here : {k : ℕ} {b : Bool} → b ≡ true → refuse k b ≡ Some (alone k)
 unfolding refuse
 refuse_here e = rw e
 
-pub refuse_none : (k : ℕ) {b : Bool} → b ≡ false → refuse k b ≡ none
+pub refuse_none : (k : ℕ) {b : Bool} → b ≡ false → refuse k b ≡ None
 unfolding refuse
 refuse_none k e = rw e
 
-pub none_refuse : (k : ℕ) (b : Bool) → refuse k b ≡ none → b ≡ false
+pub none_refuse : (k : ℕ) (b : Bool) → refuse k b ≡ None → b ≡ false
 unfolding refuse
-none_refuse k true q = absurd (none-ne-some (alone k) (sym q))
+none_refuse k true q = absurd (none-some (alone k) (sym q))
 none_refuse k false q = refl
 
-none_refuse_at : (k : ℕ) (o : Option Cell) → refuse_at k o ≡ none → o ≡ none
+none_refuse_at : (k : ℕ) (o : Option Cell) → refuse_at k o ≡ None → o ≡ None
 unfolding refuse_at
-none_refuse_at k o q = (map-eq-none_iff _ o).0 q
+none_refuse_at k o q = mapped_none _ o q
 
-refuse_at_none : (k : ℕ) (o : Option Cell) → o ≡ none → refuse_at k o ≡ none
+refuse_at_none : (k : ℕ) (o : Option Cell) → o ≡ None → refuse_at k o ≡ None
 unfolding refuse_at
 refuse_at_none k o e = rw e
 
 -- the first test that applies
-pub first_here : {q : Refusal} (t : Option Refusal) (ts : List (Option Refusal)) → t ≡ some q → first (t ∷ ts) ≡ some q
+pub first_here : {q : Refusal} (t : Option Refusal) (ts : List (Option Refusal)) → t ≡ Some q → first (t ∷ ts) ≡ Some q
 unfolding first
 first_here t ts e = rw e
 
-pub first_next : (t : Option Refusal) (ts : List (Option Refusal)) → t ≡ none → first (t ∷ ts) ≡ first ts
+pub first_next : (t : Option Refusal) (ts : List (Option Refusal)) → t ≡ None → first (t ∷ ts) ≡ first ts
 unfolding first
 first_next t ts e = rw e
 
-pub first_end : first [] ≡ none
+pub first_end : first [] ≡ None
 unfolding first
 first_end = refl
 
-pub first_past : (ts us : List (Option Refusal)) → first ts ≡ none → first (ts ++ us) ≡ first us
+pub first_past : (ts us : List (Option Refusal)) → first ts ≡ None → first (ts ++ us) ≡ first us
 unfolding first
 first_past [] us e = refl
-first_past (some q ∷ ts) us e = absurd (none-ne-some q (sym e))
-first_past (none ∷ ts) us e = first_past ts us e
+first_past (Some q ∷ ts) us e = absurd (none-some q (sym e))
+first_past (None ∷ ts) us e = first_past ts us e
 
-pub first_front : {q : Refusal} (ts us : List (Option Refusal)) → first ts ≡ some q → first (ts ++ us) ≡ some q
+pub first_front : {q : Refusal} (ts us : List (Option Refusal)) → first ts ≡ Some q → first (ts ++ us) ≡ Some q
 unfolding first
-first_front {q} [] us e = absurd (none-ne-some q e)
-first_front (some r ∷ ts) us e = e
-first_front (none ∷ ts) us e = first_front ts us e
+first_front {q} [] us e = absurd (none-some q e)
+first_front (Some r ∷ ts) us e = e
+first_front (None ∷ ts) us e = first_front ts us e
 
-first_none : (t : Option Refusal) (ts : List (Option Refusal)) → first (t ∷ ts) ≡ none → (t ≡ none) × (first ts ≡ none)
+first_none : (t : Option Refusal) (ts : List (Option Refusal)) → first (t ∷ ts) ≡ None → (t ≡ None) × (first ts ≡ None)
 unfolding first
-first_none (some q) ts e = absurd (none-ne-some q (sym e))
-first_none none ts e = (refl, e)
+first_none (Some q) ts e = absurd (none-some q (sym e))
+first_none None ts e = (refl, e)
 
 -- where nothing is refused, test i of the list does not apply, counted from 0
-pub first_clear : (ts : List (Option Refusal)) → first ts ≡ none → (i : ℕ) → get_or ts i none ≡ none
+pub first_clear : (ts : List (Option Refusal)) → first ts ≡ None → (i : ℕ) → get_or ts i None ≡ None
 first_clear [] q i = refl
 first_clear (t ∷ ts) q zero = (first_none t ts q).0
 first_clear (t ∷ ts) q (suc i) = first_clear ts (first_none t ts q).1 i
 
 -- n is in its bounds where test 2 does not apply
-pub size_told : (p n : ℕ) (ts : List (Option Refusal)) → first (refuse 1 (no_prime p) ∷ refuse 2 (no_size n) ∷ ts) ≡ none → (1 ≤ n) × (n ≤ widest)
+pub size_told : (p n : ℕ) (ts : List (Option Refusal)) → first (refuse 1 (no_prime p) ∷ refuse 2 (no_size n) ∷ ts) ≡ None → (1 ≤ n) × (n ≤ widest)
 size_told p n ts q = no_size_false n (none_refuse 2 _ (first_none _ _ (first_none _ _ q).1).0)
 
 -- entries are good exactly where their test does not apply
-none_entries : (k p n : ℕ) (l : List ℕ) → refuse_at k (bad_entry p n l) ≡ none → Small p l
+none_entries : (k p n : ℕ) (l : List ℕ) → refuse_at k (bad_entry p n l) ≡ None → Small p l
 unfolding bad_entry
 none_entries k p n l q = bad_cell_none 1 p n l (none_refuse_at k _ q)
 
-entries_none : (k p n : ℕ) (l : List ℕ) → Small p l → refuse_at k (bad_entry p n l) ≡ none
+entries_none : (k p n : ℕ) (l : List ℕ) → Small p l → refuse_at k (bad_entry p n l) ≡ None
 unfolding bad_entry
 entries_none k p n l h = refuse_at_none k _ (small_bad_cell 1 p n l h)
 
-none_coefficients : (k p : ℕ) (f : List ℕ) → refuse_at k (bad_coefficient p f) ≡ none → Small p f
+none_coefficients : (k p : ℕ) (f : List ℕ) → refuse_at k (bad_coefficient p f) ≡ None → Small p f
 unfolding bad_coefficient
 none_coefficients k p f q = bad_cell_none 0 p (length f) f (none_refuse_at k _ q)
 
-none_scalar : (k p a : ℕ) → refuse_at k (bad_scalar p a) ≡ none → a < p
+none_scalar : (k p a : ℕ) → refuse_at k (bad_scalar p a) ≡ None → a < p
 unfolding bad_scalar
 none_scalar k p a q = (none_coefficients k p (a ∷ []) q).0
 
-pub scalar_none : (k p a : ℕ) → a < p → refuse_at k (bad_scalar p a) ≡ none
+pub scalar_none : (k p a : ℕ) → a < p → refuse_at k (bad_scalar p a) ≡ None
 unfolding bad_scalar bad_coefficient
 scalar_none k p a h = refuse_at_none k _ (small_bad_cell 0 p 1 (a ∷ []) (h, tt))
 
 -- what is known of an input that is not refused
-sound : (p n : ℕ) (m : List ℕ) → refuse 1 (no_prime p) ≡ none → refuse 2 (no_size n) ≡ none → refuse 3 (no_matrix n m) ≡ none
-    → refuse_at 5 (bad_entry p n m) ≡ none → Sound p n m
+sound : (p n : ℕ) (m : List ℕ) → refuse 1 (no_prime p) ≡ None → refuse 2 (no_size n) ≡ None → refuse 3 (no_matrix n m) ≡ None
+    → refuse_at 5 (bad_entry p n m) ≡ None → Sound p n m
 sound p n m a b c d =
     let P = no_prime_false p (none_refuse 1 _ a) in
     let N = no_size_false n (none_refuse 2 _ b) in
@@ -287,7 +289,7 @@ sound p n m a b c d =
 -- what the tests before the buffers say of a call that takes a list of rows
 pub list_sound : (p n : ℕ) (m cs : List ℕ) (ts : List (Option Refusal))
     → first (refuse 1 (no_prime p) ∷ refuse 2 (no_size n) ∷ refuse 3 (no_matrix n m) ∷ refuse 4 (no_rows n cs)
-    ∷ refuse_at 5 (bad_entry p n m) ∷ refuse_at 10 (bad_entry p n cs) ∷ ts) ≡ none → Sound p n m × SoundRows p n cs
+    ∷ refuse_at 5 (bad_entry p n m) ∷ refuse_at 10 (bad_entry p n cs) ∷ ts) ≡ None → Sound p n m × SoundRows p n cs
 list_sound p n m cs ts q =
     let c = first_clear _ q in
     let A = sound p n m (c 0) (c 1) (c 2) (c 4) in
@@ -297,7 +299,7 @@ list_sound p n m cs ts q =
 -- the tests of stand and chain, which lend two buffers
 rows_sound : (p n : ℕ) (m cs : List ℕ) (j : ℕ) (a : List ℕ) (k : ℕ) (b : List ℕ)
     → first (refuse 1 (no_prime p) ∷ refuse 2 (no_size n) ∷ refuse 3 (no_matrix n m) ∷ refuse 4 (no_rows n cs)
-    ∷ refuse_at 5 (bad_entry p n m) ∷ refuse_at 10 (bad_entry p n cs) ∷ refuse 6 (too_short j a || too_short k b) ∷ []) ≡ none
+    ∷ refuse_at 5 (bad_entry p n m) ∷ refuse_at 10 (bad_entry p n cs) ∷ refuse 6 (too_short j a || too_short k b) ∷ []) ≡ None
     → Sound p n m × SoundRows p n cs × (j ≤ length a) × (k ≤ length b)
 rows_sound p n m cs j a k b q =
     let c = first_clear _ q in
@@ -305,21 +307,21 @@ rows_sound p n m cs j a k b q =
     let (A, B) = list_sound p n m cs _ q in
     (A, B, too_short_false j a s.0, too_short_false k b s.1)
 
-pub inverse_sound : (p a : ℕ) → inverse_refusal p a ≡ none → Prime p × (p ≤ largest_prime) × (a < p)
+pub inverse_sound : (p a : ℕ) → inverse_refusal p a ≡ None → Prime p × (p ≤ largest_prime) × (a < p)
 unfolding inverse_refusal
 inverse_sound p a q =
     let c = first_clear _ q in
     let P = no_prime_false p (none_refuse 1 _ (c 0)) in
     (P.0, P.1, none_scalar 11 p a (c 1))
 
-pub order_sound : (p n : ℕ) (m v out : List ℕ) → order_refusal p n m v out ≡ none → Sound p n m × (length v ≡ n) × Small p v × (n + 1 ≤ length out)
+pub order_sound : (p n : ℕ) (m v out : List ℕ) → order_refusal p n m v out ≡ None → Sound p n m × (length v ≡ n) × Small p v × (n + 1 ≤ length out)
 unfolding order_refusal
 order_sound p n m v out q =
     let c = first_clear _ q in
     let A = sound p n m (c 0) (c 1) (c 2) (c 4) in
     (A, no_vector_false n v (none_refuse 4 _ (c 3)), none_entries 10 p n v (c 5), too_short_false (n + 1) out (none_refuse 6 _ (c 6)))
 
-pub image_sound : (p n : ℕ) (m v f out : List ℕ) → image_refusal p n m v f out ≡ none
+pub image_sound : (p n : ℕ) (m v f out : List ℕ) → image_refusal p n m v f out ≡ None
     → Sound p n m × (length v ≡ n) × (1 ≤ length f) × (length f ≤ coefficients) × Small p v × Small p f × (n ≤ length out)
 unfolding image_refusal
 image_sound p n m v f out q =
@@ -329,17 +331,17 @@ image_sound p n m v f out q =
     let w = no_vector_false n v (none_refuse 4 _ (c 3)) in
     (A, w, l.0, l.1, none_entries 10 p n v (c 6), none_coefficients 11 p f (c 7), too_short_false n out (none_refuse 6 _ (c 8)))
 
-pub stand_sound : (p n : ℕ) (m cs poly image : List ℕ) → stand_refusal p n m cs poly image ≡ none
+pub stand_sound : (p n : ℕ) (m cs poly image : List ℕ) → stand_refusal p n m cs poly image ≡ None
     → Sound p n m × SoundRows p n cs × (n + 1 ≤ length poly) × (n ≤ length image)
 unfolding stand_refusal
 stand_sound p n m cs poly image q = rows_sound p n m cs (n + 1) poly n image q
 
-pub chain_sound : (p n : ℕ) (m cs product stages : List ℕ) → chain_refusal p n m cs product stages ≡ none
+pub chain_sound : (p n : ℕ) (m cs product stages : List ℕ) → chain_refusal p n m cs product stages ≡ None
     → Sound p n m × SoundRows p n cs × (n + 1 ≤ length product) × (stage_room n ≤ length stages)
 unfolding chain_refusal
 chain_sound p n m cs product stages q = rows_sound p n m cs (n + 1) product (stage_room n) stages q
 
-pub period_sound : (p n : ℕ) (m : List ℕ) → period_refusal p n m ≡ none → Sound p n m
+pub period_sound : (p n : ℕ) (m : List ℕ) → period_refusal p n m ≡ None → Sound p n m
 unfolding period_refusal
 period_sound p n m q =
     let c = first_clear _ q in
@@ -348,21 +350,21 @@ period_sound p n m q =
 -- and the other way round: sound inputs are not refused by the calls that a sheet makes
 abbrev pub AllNone : List (Option Refusal) → Type 0
 AllNone [] = Unit {0}
-AllNone (t ∷ ts) = (t ≡ none) × AllNone ts
+AllNone (t ∷ ts) = (t ≡ None) × AllNone ts
 
-none_first : (ts : List (Option Refusal)) → AllNone ts → first ts ≡ none
+none_first : (ts : List (Option Refusal)) → AllNone ts → first ts ≡ None
 none_first [] h = first_end
 none_first (t ∷ ts) h = first_next t ts h.0 ∙ none_first ts h.1
 
 -- the tests that every call on a matrix runs
-sound_shape : (p n : ℕ) (m : List ℕ) → Sound p n m → (refuse 1 (no_prime p) ≡ none) × (refuse 2 (no_size n) ≡ none) × (refuse 3 (no_matrix n m) ≡ none)
+sound_shape : (p n : ℕ) (m : List ℕ) → Sound p n m → (refuse 1 (no_prime p) ≡ None) × (refuse 2 (no_size n) ≡ None) × (refuse 3 (no_matrix n m) ≡ None)
 sound_shape p n m A =
     (refuse_none 1 (prime_no_prime p A.prime A.most), refuse_none 2 (size_no_size n A.some_size A.size), refuse_none 3 (matrix_no_matrix n m A.matrix))
 
 -- those that every call on a list of rows runs first
 pub sound_list : (p n : ℕ) (m cs : List ℕ) (ts : List (Option Refusal)) → Sound p n m → SoundRows p n cs → AllNone ts
     → first (refuse 1 (no_prime p) ∷ refuse 2 (no_size n) ∷ refuse 3 (no_matrix n m) ∷ refuse 4 (no_rows n cs)
-    ∷ refuse_at 5 (bad_entry p n m) ∷ refuse_at 10 (bad_entry p n cs) ∷ ts) ≡ none
+    ∷ refuse_at 5 (bad_entry p n m) ∷ refuse_at 10 (bad_entry p n cs) ∷ ts) ≡ None
 sound_list p n m cs ts A B h =
     let (x, y, z) = sound_shape p n m A in
     let whole = refuse_none 4 (rows_no_rows n cs A.some_size _ B.whole B.few) in
@@ -375,26 +377,26 @@ list_past p n m cs ts A B = first_past (_ ∷ _ ∷ _ ∷ _ ∷ _ ∷ _ ∷ []) 
 
 sound_rows : (p n : ℕ) (m cs : List ℕ) (j : ℕ) (a : List ℕ) (k : ℕ) (b : List ℕ) → Sound p n m → SoundRows p n cs → j ≤ length a → k ≤ length b
     → first (refuse 1 (no_prime p) ∷ refuse 2 (no_size n) ∷ refuse 3 (no_matrix n m) ∷ refuse 4 (no_rows n cs)
-    ∷ refuse_at 5 (bad_entry p n m) ∷ refuse_at 10 (bad_entry p n cs) ∷ refuse 6 (too_short j a || too_short k b) ∷ []) ≡ none
+    ∷ refuse_at 5 (bad_entry p n m) ∷ refuse_at 10 (bad_entry p n cs) ∷ refuse 6 (too_short j a || too_short k b) ∷ []) ≡ None
 sound_rows p n m cs j a k b A B h i =
-    let room : refuse 6 (too_short j a || too_short k b) ≡ none = refuse_none 6 (rw (long-too_short j a h, long-too_short k b i)) in
+    let room : refuse 6 (too_short j a || too_short k b) ≡ None = refuse_none 6 (rw (long-too_short j a h, long-too_short k b i)) in
     sound_list p n m cs _ A B (room, tt)
 
 pub sound_stand : (p n : ℕ) (m cs poly image : List ℕ) → Sound p n m → SoundRows p n cs → n + 1 ≤ length poly → n ≤ length image
-    → stand_refusal p n m cs poly image ≡ none
+    → stand_refusal p n m cs poly image ≡ None
 unfolding stand_refusal
 sound_stand p n m cs poly image = sound_rows p n m cs (n + 1) poly n image
 
 pub sound_chain : (p n : ℕ) (m cs product stages : List ℕ) → Sound p n m → SoundRows p n cs → n + 1 ≤ length product → stage_room n ≤ length stages
-    → chain_refusal p n m cs product stages ≡ none
+    → chain_refusal p n m cs product stages ≡ None
 unfolding chain_refusal
 sound_chain p n m cs product stages = sound_rows p n m cs (n + 1) product (stage_room n) stages
 
-pub sound_inverse : (p a : ℕ) → is_prime p ≡ true → a < p → inverse_refusal p a ≡ none
+pub sound_inverse : (p a : ℕ) → is_prime p ≡ true → a < p → inverse_refusal p a ≡ None
 unfolding inverse_refusal no_prime
 sound_inverse p a P h = none_first _ (refuse_none 1 (rw P), (scalar_none 11 p a h, tt))
 
-pub sound_period : (p n : ℕ) (m : List ℕ) → Sound p n m → period_refusal p n m ≡ none
+pub sound_period : (p n : ℕ) (m : List ℕ) → Sound p n m → period_refusal p n m ≡ None
 unfolding period_refusal
 sound_period p n m A =
     let (x, y, z) = sound_shape p n m A in

@@ -8,7 +8,7 @@
 use mathlib.Core.Path.{◌≡◌, refl, sym, ap, ap₂, ◌∙◌}
 use mathlib.Core.Bool.{Bool, true, false, ◌&&◌, ◌||◌, and-eq-true_iff}
 use mathlib.Core.List.{List, [], ◌∷◌, ◌++◌, map}
-use mathlib.Core.Option.{Option, none, some}
+use Rattle.std.specs.Prelude.{Option, None, Some}
 use Prim.Native.Nat.{ℕ, suc}
 use Prim.Native.String.{String}
 use native.Mathlib.Omega.{arith}
@@ -76,8 +76,8 @@ word_plain : (w : String) → lettered (ascii w) ≡ true → Each Plain (ascii 
 word_plain w = lettered_plain (ascii w)
 
 last_wordy : {p : ℕ} (n : ℕ) (st : List (WithDegree p)) (o : Option ℕ) → Wordy (chain_line n st ∷ period_line o ∷ [])
-last_wordy n st none = (word_plain "CHAIN" refl, (word_plain "PERIOD none" refl, tt))
-last_wordy n st (some t) = (word_plain "CHAIN" refl, (word_plain "PERIOD" refl, tt))
+last_wordy n st None = (word_plain "CHAIN" refl, (word_plain "PERIOD none" refl, tt))
+last_wordy n st (Some t) = (word_plain "CHAIN" refl, (word_plain "PERIOD" refl, tt))
 
 stages_wordy : {p : ℕ} (st : List (WithDegree p)) (ys : List Line) → Wordy ys → Wordy (map stage_line st ++ ys)
 stages_wordy [] ys h = h

@@ -10,7 +10,7 @@
 -- Assumes nothing.
 use mathlib.Core.Path.{◌≡◌, refl, ap, ◌∙◌}
 use mathlib.Core.List.{List, [], ◌∷◌, ◌++◌, map}
-use mathlib.Core.Option.{Option, none, some}
+use Rattle.std.specs.Prelude.{Option, None, Some}
 use Prim.Native.Nat.{ℕ, suc, ◌+◌, ◌*◌, ◌^◌, ◌<◌, ◌≤◌}
 use Prim.Native.String.{String}
 use native.Mathlib.Nat.{le_of_eq, le_trans}
@@ -41,11 +41,11 @@ pub room_bytes : sheet_room ≡ 2048
 unfolding sheet_room
 room_bytes = refl
 
-pub room_six : (out : List ℕ) → length out < sheet_room → first (refuse 6 (too_short sheet_room out) ∷ []) ≡ some (alone 6)
+pub room_six : (out : List ℕ) → length out < sheet_room → first (refuse 6 (too_short sheet_room out) ∷ []) ≡ Some (alone 6)
 unfolding too_short
 room_six out h = first_here _ [] (refuse_here (lt-ltb (length out) sheet_room h))
 
-pub room_none : (out : List ℕ) → sheet_room ≤ length out → first (refuse 6 (too_short sheet_room out) ∷ []) ≡ none
+pub room_none : (out : List ℕ) → sheet_room ≤ length out → first (refuse 6 (too_short sheet_room out) ∷ []) ≡ None
 room_none out h = first_next _ [] (refuse_none 6 (long-too_short sheet_room out h)) ∙ first_end
 
 pub given_size : {s old new : List ℕ} {k : ℕ} → SheetCall s old (given k) new → k ≤ length new
@@ -124,9 +124,9 @@ stage_lines_length (s ∷ st) h b =
 
 pub period_line_length : (p n : ℕ) (m : List ℕ) (t : Option ℕ) → IsPeriod p n m t → length (line_bytes (period_line t)) ≤ 13
 unfolding spaced longest
-period_line_length p n m (some t) A =
+period_line_length p n m (Some t) A =
     omega (arith, line_length "PERIOD" (t ∷ []), length-append (decimal t) [], decimal_length 5 t (omega (arith, A.1)) (omega arith))
-period_line_length p n m none A = omega (arith, line_length "PERIOD none" [])
+period_line_length p n m None A = omega (arith, line_length "PERIOD none" [])
 
 sheet_length : (x : Line) (front mid : List Line) (y z : Line) → length (text (x ∷ (front ++ (mid ++ (y ∷ z ∷ [])))))
     ≡ length (line_bytes x) + (length (text front) + (length (text mid) + (length (line_bytes y) + length (line_bytes z))))

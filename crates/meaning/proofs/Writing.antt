@@ -14,7 +14,8 @@
 -- Assumes nothing.
 use mathlib.Core.Path.{◌≡◌, refl, sym, ap, ap₂, subst, ◌∙◌}
 use mathlib.Core.List.{List, [], ◌∷◌, ◌++◌, flatten}
-use mathlib.Core.Option.{Option, none, some, none-ne-some}
+use Rattle.std.specs.Prelude.{Option, None, Some}
+use Rattle.std.proofs.lemmas.Option.{none-some}
 use Prim.Native.Nat.{ℕ, zero, suc, ◌+◌, ◌*◌, ◌/◌, ◌%◌, ◌<◌, ◌≤◌}
 use native.Mathlib.Nat.{zero-mul, suc-mul, one-mul, add-mul, zero-div}
 use native.Mathlib.Omega.{arith}
@@ -73,21 +74,21 @@ bytes_cut p n k l h q s =
     subst (λ xs. (length xs ≡ k) × RowsOf p n xs × (flatten xs ≡ l)) e (C.count, C.shape, C.bytes)
 
 -- the halves of an allowance
-pub halves_below : (a : ℕ) → a ≤ most_allowance → Halves (some (halves_of a))
+pub halves_below : (a : ℕ) → a ≤ most_allowance → Halves (Some (halves_of a))
 halves_below a h = (omega arith, omega arith)
 
 halves_value : (a : ℕ) → radix * (a / radix) + a % radix ≡ a
 halves_value a = omega arith
 
-halves_again : (o : Option (ℕ × ℕ)) → Halves o → {h : ℕ × ℕ} → o ≡ some h → some (halves_of (allowance_in o)) ≡ o
-halves_again none w {h} e = absurd (none-ne-some h e)
-halves_again (some (high, low)) w e =
+halves_again : (o : Option (ℕ × ℕ)) → Halves o → {h : ℕ × ℕ} → o ≡ Some h → Some (halves_of (allowance_in o)) ≡ o
+halves_again None w {h} e = absurd (none-some h e)
+halves_again (Some (high, low)) w e =
     let d : (radix * high + low) / radix ≡ high = omega arith in
     let r : (radix * high + low) % radix ≡ low = omega arith in
-    ap₂ (λ x y. some (x, y)) d r
+    ap₂ (λ x y. Some (x, y)) d r
 
 -- what is known of an input that is not refused, and the other way round
-pub write_sound : (p n : ℕ) (m cs : List ℕ) (a : ℕ) (out : List ℕ) → write_refusal p n m cs a out ≡ none
+pub write_sound : (p n : ℕ) (m cs : List ℕ) (a : ℕ) (out : List ℕ) → write_refusal p n m cs a out ≡ None
     → Sound p n m × SoundRows p n cs × (a ≤ most_allowance) × (length (case_written p n m cs a) ≤ length out)
 unfolding write_refusal
 write_sound p n m cs a out q =
@@ -96,19 +97,19 @@ write_sound p n m cs a out q =
     (A, B, no_allowance_false a (none_refuse 9 _ (c 6)), too_short_false _ out (none_refuse 6 _ (c 7)))
 
 pub sound_write : (p n : ℕ) (m cs : List ℕ) (a : ℕ) (out : List ℕ) → Sound p n m → SoundRows p n cs → a ≤ most_allowance
-    → length (case_written p n m cs a) ≤ length out → write_refusal p n m cs a out ≡ none
+    → length (case_written p n m cs a) ≤ length out → write_refusal p n m cs a out ≡ None
 unfolding write_refusal
 sound_write p n m cs a out A B h k =
     sound_list p n m cs _ A B (refuse_none 9 (allowance_no_allowance a h), (refuse_none 6 (long-too_short _ out k), tt))
 
 -- what an input that is sound but for its allowance, or its buffer, is refused with
 pub over_write : (p n : ℕ) (m cs : List ℕ) (a : ℕ) (out : List ℕ) → Sound p n m → SoundRows p n cs → most_allowance < a
-    → write_refusal p n m cs a out ≡ some (alone 9)
+    → write_refusal p n m cs a out ≡ Some (alone 9)
 unfolding write_refusal
 over_write p n m cs a out A B h = list_past p n m cs _ A B ∙ first_here _ _ (refuse_here (no_allowance_true a h))
 
 pub short_write : (p n : ℕ) (m cs : List ℕ) (a : ℕ) (out : List ℕ) → Sound p n m → SoundRows p n cs → a ≤ most_allowance
-    → length out < length (case_written p n m cs a) → write_refusal p n m cs a out ≡ some (alone 6)
+    → length out < length (case_written p n m cs a) → write_refusal p n m cs a out ≡ Some (alone 6)
 unfolding write_refusal
 short_write p n m cs a out A B h l =
     list_past p n m cs _ A B ∙ first_next _ _ (refuse_none 9 (allowance_no_allowance a h)) ∙ first_here _ _ (refuse_here (too_short_true _ out l))
@@ -143,14 +144,14 @@ unfolding case_of
 case_of_allowance p n m cs a = halves_value a
 
 -- the allowance of a case with an A record is not too large
-pub case_allowance : (c : Case) → WellFormed c → {h : ℕ × ℕ} → c.allowance ≡ some h → allowance_of c ≤ most_allowance
+pub case_allowance : (c : Case) → WellFormed c → {h : ℕ × ℕ} → c.allowance ≡ Some h → allowance_of c ≤ most_allowance
 case_allowance c w e = within c.allowance w.halves e
   where
-    within : (o : Option (ℕ × ℕ)) → Halves o → {h : ℕ × ℕ} → o ≡ some h → allowance_in o ≤ most_allowance
-    within none w {h} e = absurd (none-ne-some h e)
-    within (some (high, low)) w e = omega arith
+    within : (o : Option (ℕ × ℕ)) → Halves o → {h : ℕ × ℕ} → o ≡ Some h → allowance_in o ≤ most_allowance
+    within None w {h} e = absurd (none-some h e)
+    within (Some (high, low)) w e = omega arith
 
-pub case_of_again : (c : Case) → WellFormed c → {h : ℕ × ℕ} → c.allowance ≡ some h
+pub case_of_again : (c : Case) → WellFormed c → {h : ℕ × ℕ} → c.allowance ≡ Some h
     → case_of c.p c.n (matrix_bytes c) (candidate_bytes c) (allowance_of c) ≡ c
 unfolding case_of
 case_of_again c w e =
@@ -171,7 +172,7 @@ unfolding case_written case_bytes records case_of flat record_bytes
 written_length p n m cs a A B =
     let M = bytes_cut p n n m A.some_size A.matrix A.entries in
     let C = bytes_cut p n _ cs A.some_size B.whole B.entries in
-    parts_length p n (some (halves_of a)) (byte_rows n m) (byte_rows n cs) M.1 C.1
+    parts_length p n (Some (halves_of a)) (byte_rows n m) (byte_rows n cs) M.1 C.1
     ∙ ap₂ (λ j k. 4 + (4 + (j * (n + 2) + (k * (n + 2) + 2)))) M.0 C.0 ∙ (omega (arith, add-mul n (length cs / n) (n + 2)))
 
 -- other values give other bytes

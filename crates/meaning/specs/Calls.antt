@@ -10,7 +10,7 @@
 --   PeriodCall         the period
 -- Assumes nothing.
 use Rattle.std.specs.Prelude.{◌≡◌, List, ℕ, suc, length}
-use Rattle.std.proofs.Math.Option.{Option, none, some}
+use Rattle.std.specs.Prelude.{Option, None, Some}
 use Rattle.algebra.specs.Poly.{Poly, coef}
 use Rattle.algebra.specs.Orders.{WithDegree, product}
 use Rattle.meaning.specs.Bytes.{row, poly_of, times, bytes, write, padded}
@@ -26,8 +26,8 @@ pub data Answer (A : Type 0) : Type 0 where
   given : A → Answer A
 
 pub record Called {A B : Type 0} (q : Option Refusal) (R : A → B → Type 0) (old : B) (answer : Answer A) (new : B) : Type 0 where
-  pub refusal : (k : Refusal) → q ≡ some k → (answer ≡ refused k) × (new ≡ old)
-  pub result : q ≡ none → (r : A) × (answer ≡ given r) × R r new
+  pub refusal : (k : Refusal) → q ≡ Some k → (answer ≡ refused k) × (new ≡ old)
+  pub result : q ≡ None → (r : A) × (answer ≡ given r) × R r new
 
 -- calls that lend no buffer have `Unit` for it
 abbrev pub InverseCall : ℕ → ℕ → Answer (Option ℕ) → Type 0

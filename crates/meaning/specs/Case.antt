@@ -24,7 +24,7 @@
 -- Assumes nothing.
 use Rattle.std.specs.Prelude.{◌≡◌, true, ℕ, suc, ◌+◌, ◌*◌, ◌<◌, ◌≤◌, length, take}
 use mathlib.Core.List.{List, [], ◌∷◌, ◌++◌, map, flatten}
-use Rattle.std.proofs.Math.Option.{Option, none, some}
+use Rattle.std.specs.Prelude.{Option, None, Some}
 use Rattle.meaning.specs.Bytes.{Small}
 use Rattle.meaning.specs.Bounds.{widest, most_candidates}
 use Rattle.meaning.specs.Refusal.{is_prime}
@@ -58,8 +58,8 @@ pub record Case : Type 0 where
   pub candidates : List (List ℕ)
 
 abbrev pub allow_record : Option (ℕ × ℕ) → List Record
-allow_record none = []
-allow_record (some a) = allow a.0 a.1 ∷ []
+allow_record None = []
+allow_record (Some a) = allow a.0 a.1 ∷ []
 
 unfoldable pub records : Case → List Record
 records c = field c.p c.n ∷ (allow_record c.allowance ++ (map row c.matrix ++ (map candidate c.candidates ++ (end ∷ []))))
@@ -75,8 +75,8 @@ abbrev pub radix : ℕ
 radix = 128
 
 abbrev pub Halves : Option (ℕ × ℕ) → Type 0
-Halves none = Unit {0}
-Halves (some a) = (a.0 < radix) × (a.1 < radix)
+Halves None = Unit {0}
+Halves (Some a) = (a.0 < radix) × (a.1 < radix)
 
 pub record WellFormed (c : Case) : Type 0 where
   pub prime : is_prime c.p ≡ true
@@ -92,8 +92,8 @@ unfoldable pub default_allowance : ℕ
 default_allowance = 8192
 
 abbrev pub allowance_in : Option (ℕ × ℕ) → ℕ
-allowance_in none = default_allowance
-allowance_in (some a) = radix * a.0 + a.1
+allowance_in None = default_allowance
+allowance_in (Some a) = radix * a.0 + a.1
 
 abbrev pub allowance_of : Case → ℕ
 allowance_of c = allowance_in c.allowance

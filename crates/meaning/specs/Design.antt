@@ -22,7 +22,7 @@
 --   FirstWrong t p e   the first thing that is wrong in t is at the spot p, where e was expected: just what might have been said there
 -- Assumes nothing.
 use Rattle.std.specs.Prelude.{◌≡◌, Bool, true, false, ◌&&◌, ◌||◌, cond, List, [], ◌∷◌, ◌++◌, map, ℕ, zero, suc, ◌+◌, ◌*◌, ◌-◌, ◌/◌, ◌%◌, ◌<◌, length, get_or, take, drop, leb, ltb, eqb}
-use Rattle.std.proofs.Math.Option.{Option, none, some}
+use Rattle.std.specs.Prelude.{Option, None, Some}
 use Rattle.meaning.specs.Bounds.{widest, most_allowance}
 use Rattle.meaning.specs.Refusal.{is_prime}
 use Rattle.meaning.specs.Case.{Case, radix, IsCase, Begins, Place}
@@ -68,11 +68,11 @@ abbrev pub is_digit : ℕ → Bool
 is_digit b = leb 48 b && leb b 57
 
 unfoldable pub number_from : ℕ → List ℕ → Option ℕ
-number_from v [] = some v
-number_from v (b ∷ w) = cond (is_digit b) (number_from (10 * v + (b - 48)) w) none
+number_from v [] = Some v
+number_from v (b ∷ w) = cond (is_digit b) (number_from (10 * v + (b - 48)) w) None
 
 unfoldable pub number_in : List ℕ → Option ℕ
-number_in [] = none
+number_in [] = None
 number_in (b ∷ w) = number_from 0 (b ∷ w)
 
 abbrev pub no_byte : ℕ
@@ -90,12 +90,12 @@ letter_of w =
     (cond (same w (ascii "row")) 82 (cond (same w (ascii "candidate")) 67 no_byte)))
 
 abbrev pub byte_in : Option ℕ → ℕ
-byte_in none = no_byte
-byte_in (some v) = cond (ltb v no_byte) v no_byte
+byte_in None = no_byte
+byte_in (Some v) = cond (ltb v no_byte) v no_byte
 
 abbrev pub halves_in : Option ℕ → List ℕ
-halves_in none = no_byte ∷ []
-halves_in (some v) = cond (leb v most_allowance) (v / radix ∷ v % radix ∷ []) (no_byte ∷ [])
+halves_in None = no_byte ∷ []
+halves_in (Some v) = cond (leb v most_allowance) (v / radix ∷ v % radix ∷ []) (no_byte ∷ [])
 
 unfoldable pub cell_bytes : ℕ → List ℕ → List ℕ
 cell_bytes b w = cond (eqb b 65) (halves_in (number_in w)) (byte_in (number_in w) ∷ [])

@@ -12,7 +12,7 @@
 --   FirstBad top p n l c  the entry in c is bad, and none before it in reading order is: `bad_cell` says just that (`bad_first`, `first_bad_lem`)
 -- Assumes nothing.
 use Rattle.std.specs.Prelude.{◌≡◌, ◌⊎◌, true, false, List, [], ◌∷◌, ℕ, suc, ◌+◌, ◌*◌, ◌-◌, ◌/◌, ◌%◌, ◌<◌, ◌≤◌, length, get_or, leb}
-use Rattle.std.proofs.Math.Option.{Option, none, some, map}
+use Rattle.std.specs.Prelude.{Option, None, Some, option_map}
 
 pub record Cell : Type 0 where
   pub row : ℕ
@@ -22,11 +22,11 @@ unfoldable pub cell_at : (top n i : ℕ) → Cell
 cell_at top n i = record { row = top + i / n; column = suc (i % n) }
 
 unfoldable pub first_bad : ℕ → List ℕ → Option ℕ
-first_bad p [] = none
-first_bad p (x ∷ l) = elim (leb p x) [ true ↦ some 0 | false ↦ map suc (first_bad p l) ]
+first_bad p [] = None
+first_bad p (x ∷ l) = elim (leb p x) [ true ↦ Some 0 | false ↦ option_map suc (first_bad p l) ]
 
 unfoldable pub bad_cell : (top p n : ℕ) → List ℕ → Option Cell
-bad_cell top p n l = map (cell_at top n) (first_bad p l)
+bad_cell top p n l = option_map (cell_at top n) (first_bad p l)
 
 -- what that means, cell by cell
 abbrev pub entries_before : (top n : ℕ) → Cell → ℕ

@@ -20,7 +20,7 @@
 --                      `Writing`
 -- Assumes nothing.
 use Rattle.std.specs.Prelude.{Bool, true, false, not, ◌&&◌, ◌||◌, List, [], ◌∷◌, ℕ, zero, suc, ◌+◌, ◌*◌, ◌/◌, ◌%◌, length, leb, ltb, eqb}
-use Rattle.std.proofs.Math.Option.{Option, none, some, map}
+use Rattle.std.specs.Prelude.{Option, None, Some, option_map}
 use Rattle.meaning.specs.Bounds.{largest_prime, widest, coefficients, most_candidates, most_allowance}
 use Rattle.meaning.specs.Chain.{stage_room}
 use Rattle.meaning.specs.Entry.{Cell, bad_cell}
@@ -30,11 +30,11 @@ pub data Refusal : Type 0 where
   at : (number row column : ℕ) → Refusal
 
 unfoldable pub refuse : ℕ → Bool → Option Refusal
-refuse k true = some (alone k)
-refuse k false = none
+refuse k true = Some (alone k)
+refuse k false = None
 
 unfoldable pub refuse_at : ℕ → Option Cell → Option Refusal
-refuse_at k o = map (λ c. at k c.row c.column) o
+refuse_at k o = option_map (λ c. at k c.row c.column) o
 
 unfoldable pub all_below : ℕ → (ℕ → Bool) → Bool
 all_below zero t = true
@@ -77,9 +77,9 @@ unfoldable pub too_short : ℕ → List ℕ → Bool
 too_short k out = ltb (length out) k
 
 unfoldable pub first : List (Option Refusal) → Option Refusal
-first [] = none
-first (some q ∷ ts) = some q
-first (none ∷ ts) = first ts
+first [] = None
+first (Some q ∷ ts) = Some q
+first (None ∷ ts) = first ts
 
 unfoldable pub inverse_refusal : ℕ → ℕ → Option Refusal
 inverse_refusal p a = first (refuse 1 (no_prime p) ∷ refuse_at 11 (bad_scalar p a) ∷ [])

@@ -14,7 +14,7 @@
 --   SheetResult, SheetCall   the call: the sheet at the front of the buffer, its length returned; 6 where the buffer has not that room
 -- Assumes nothing.
 use Rattle.std.specs.Prelude.{◌≡◌, List, [], ◌∷◌, ◌++◌, map, ℕ, suc, length}
-use Rattle.std.proofs.Math.Option.{Option, none, some}
+use Rattle.std.specs.Prelude.{Option, None, Some}
 use Rattle.algebra.specs.Row.{S}
 use Rattle.algebra.specs.Poly.{Poly, coef, act}
 use Rattle.algebra.specs.Orders.{WithDegree, product}
@@ -52,8 +52,8 @@ abbrev pub chain_line : {p : ℕ} → ℕ → List (WithDegree p) → Line
 chain_line n st = record { word = "CHAIN"; numbers = bytes (suc n) (coef (product st)) }
 
 abbrev pub period_line : Option ℕ → Line
-period_line (some t) = record { word = "PERIOD"; numbers = t ∷ [] }
-period_line none = record { word = "PERIOD none"; numbers = [] }
+period_line (Some t) = record { word = "PERIOD"; numbers = t ∷ [] }
+period_line None = record { word = "PERIOD none"; numbers = [] }
 
 abbrev pub refused_line : ℕ → Line
 refused_line k = record { word = "REFUSED"; numbers = k ∷ [] }

@@ -7,7 +7,7 @@
 --   WriteCall                the call: the number of these bytes is returned, and they are at the front of the lent buffer
 -- Assumes nothing.
 use Rattle.std.specs.Prelude.{◌≡◌, List, [], ◌∷◌, ℕ, ◌/◌, ◌%◌, length}
-use Rattle.std.proofs.Math.Option.{Option, some}
+use Rattle.std.specs.Prelude.{Option, Some}
 use Rattle.meaning.specs.Bytes.{byte_rows, write}
 use Rattle.meaning.specs.Refusal.{Refusal, refuse, refuse_at, no_prime, no_size, no_matrix, no_rows, bad_entry, no_allowance, too_short, first}
 use Rattle.meaning.specs.Case.{Case, case_bytes, radix}
@@ -17,7 +17,7 @@ abbrev pub halves_of : ℕ → ℕ × ℕ
 halves_of a = (a / radix, a % radix)
 
 unfoldable pub case_of : ℕ → ℕ → List ℕ → List ℕ → ℕ → Case
-case_of p n m cs a = record { p = p; n = n; allowance = some (halves_of a); matrix = byte_rows n m; candidates = byte_rows n cs }
+case_of p n m cs a = record { p = p; n = n; allowance = Some (halves_of a); matrix = byte_rows n m; candidates = byte_rows n cs }
 
 unfoldable pub case_written : ℕ → ℕ → List ℕ → List ℕ → ℕ → List ℕ
 case_written p n m cs a = case_bytes (case_of p n m cs a)

@@ -1,1 +1,2 @@
+pub mod WellFormed
 pub mod Polynomial

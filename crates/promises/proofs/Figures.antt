@@ -4,7 +4,7 @@
 use mathlib.Core.Path.{◌≡◌, refl, ap, ap₂, ◌∙◌}
 use mathlib.Core.Bool.{Bool, true}
 use mathlib.Core.List.{List, [], ◌∷◌, map}
-use mathlib.Core.Option.{Option}
+use Rattle.std.specs.Prelude.{Option}
 use Prim.Native.Nat.{ℕ, suc}
 use Rattle.algebra.specs.Field.{fp, 𝟘, 𝟙, ◌⊕◌, ◌⊗◌, neg, is_zero}
 use Rattle.algebra.specs.InverseOrZero.{inv_or_𝟘, inv_or_𝟘-steps}

@@ -4,7 +4,7 @@
 -- Assumes nothing.
 use mathlib.Core.Path.{◌≡◌, refl}
 use mathlib.Core.Bool.{true}
-use mathlib.Core.Option.{Option, none, some}
+use Rattle.std.specs.Prelude.{Option, None, Some}
 use Prim.Native.Nat.{ℕ, ◌<◌}
 use native.Mathlib.Omega.{arith}
 use Rattle.meaning.specs.Inverse.{Inverts, IsInverse}
@@ -14,13 +14,13 @@ use Rattle.meaning.proofs.Refusal.{prime_positive, sound_inverse}
 use Rattle.meaning.proofs.Called.{given_by}
 use Rattle.promises.proofs.Calls.{inverse_unique}
 
-pub inverse_zero : {p : ℕ} {x : Answer (Option ℕ)} → is_prime p ≡ true → InverseCall p 0 x → x ≡ given none
+pub inverse_zero : {p : ℕ} {x : Answer (Option ℕ)} → is_prime p ≡ true → InverseCall p 0 x → x ≡ given None
 inverse_zero {p} P C = inverse_unique C (given_by (sound_inverse p 0 P (prime_positive p P)) refl)
 
 pub inverse_nonzero : {p a : ℕ} {x : Answer (Option ℕ)} → is_prime p ≡ true → 0 < a → a < p → InverseCall p a x
-    → (r : ℕ) × (x ≡ given (some r)) × Inverts p a r
+    → (r : ℕ) × (x ≡ given (Some r)) × Inverts p a r
 inverse_nonzero {p} {a} {x} P g h C = let (r, e, I) = C.result (sound_inverse p a P h) in go r e I
   where
-    go : (r : Option ℕ) → x ≡ given r → IsInverse p a r → (r : ℕ) × (x ≡ given (some r)) × Inverts p a r
-    go none e I = absurd (omega (arith, I))
-    go (some r) e I = (r, e, I.1)
+    go : (r : Option ℕ) → x ≡ given r → IsInverse p a r → (r : ℕ) × (x ≡ given (Some r)) × Inverts p a r
+    go None e I = absurd (omega (arith, I))
+    go (Some r) e I = (r, e, I.1)

@@ -18,7 +18,8 @@ use mathlib.Core.Path.{◌≡◌, refl, subst, ◌∙◌}
 use mathlib.Core.Bool.{Bool, true, false}
 use mathlib.Core.Logic.{◌⊎◌, inl, inr}
 use mathlib.Core.List.{List, [], ◌∷◌}
-use mathlib.Core.Option.{Option, none, some, none-ne-some, some-injective}
+use Rattle.std.specs.Prelude.{Option, None, Some}
+use Rattle.std.proofs.lemmas.Option.{none-some, same_Some}
 use Prim.Native.Nat.{ℕ, ◌+◌, ◌*◌, ◌/◌, ◌<◌, ◌≤◌}
 use native.Mathlib.Nat.{le_refl}
 use native.Mathlib.Omega.{arith}
@@ -43,26 +44,26 @@ use Rattle.promises.specs.Refused.{WithoutPlace, InShape, EntriesTold}
 
 -- the first test that applies, one after another
 record GivesOnly (P : Refusal → Type 0) (ts : List (Option Refusal)) : Type 0 where
-  gives : (q : Refusal) → first ts ≡ some q → P q
+  gives : (q : Refusal) → first ts ≡ Some q → P q
 
 gives_number : {P : Refusal → Type 0} {ts : List (Option Refusal)} (k : ℕ) (b : Bool) → P (alone k) → (b ≡ false → GivesOnly P ts)
     → GivesOnly P (refuse k b ∷ ts)
 unfolding refuse first
-gives_number {P} k true h g = record { gives = λ q e. subst P (some-injective (alone k) q e) h }
+gives_number {P} k true h g = record { gives = λ q e. subst P (same_Some (alone k) q e) h }
 gives_number k false h g = record { gives = (g refl).gives }
 
-gives_cell : {P : Refusal → Type 0} {ts : List (Option Refusal)} (k : ℕ) (o : Option Cell) → ((c : Cell) → o ≡ some c → P (at k c.row c.column))
-    → (o ≡ none → GivesOnly P ts) → GivesOnly P (refuse_at k o ∷ ts)
+gives_cell : {P : Refusal → Type 0} {ts : List (Option Refusal)} (k : ℕ) (o : Option Cell) → ((c : Cell) → o ≡ Some c → P (at k c.row c.column))
+    → (o ≡ None → GivesOnly P ts) → GivesOnly P (refuse_at k o ∷ ts)
 unfolding refuse_at first
-gives_cell {P} k (some c) h g = record { gives = λ q e. subst P (some-injective (at k c.row c.column) q e) (h c refl) }
-gives_cell k none h g = record { gives = (g refl).gives }
+gives_cell {P} k (Some c) h g = record { gives = λ q e. subst P (same_Some (at k c.row c.column) q e) (h c refl) }
+gives_cell k None h g = record { gives = (g refl).gives }
 
 gives_end : {P : Refusal → Type 0} → GivesOnly P []
 unfolding first
-gives_end = record { gives = λ q e. absurd (none-ne-some q e) }
+gives_end = record { gives = λ q e. absurd (none-some q e) }
 
 entry_here : (k p n : ℕ) (l : List ℕ) (ts : List (Option Refusal)) (c : Cell) → FirstBad 1 p n l c
-    → first (refuse_at k (bad_entry p n l) ∷ ts) ≡ some (at k c.row c.column)
+    → first (refuse_at k (bad_entry p n l) ∷ ts) ≡ Some (at k c.row c.column)
 unfolding refuse_at bad_entry first
 entry_here k p n l ts c F = rw (first_bad_lem 1 p n l c F)
 
@@ -71,7 +72,7 @@ unfolding refuse_at bad_entry first
 entry_past k p n l ts s = rw (small_bad_cell 1 p n l s)
 
 coefficient_here : (p : ℕ) (f : List ℕ) (ts : List (Option Refusal)) (c : Cell) → FirstBad 0 p (length f) f c
-    → first (refuse_at 11 (bad_coefficient p f) ∷ ts) ≡ some (at 11 c.row c.column)
+    → first (refuse_at 11 (bad_coefficient p f) ∷ ts) ≡ Some (at 11 c.row c.column)
 unfolding refuse_at bad_coefficient first
 coefficient_here p f ts c F = rw (first_bad_lem 0 p (length f) f c F)
 
@@ -122,7 +123,7 @@ module _ {p n : ℕ} {m : List ℕ} {most : ℕ} {rs f : List ℕ} where
 
 -- whatever a call is refused with is explained
 explained_by : {p n most : ℕ} {m rs f : List ℕ} {ts : List (Option Refusal)} {q : Refusal} → GivesOnly (Explained p n m most rs f) ts
-    → first ts ≡ some q → Explained p n m most rs f q
+    → first ts ≡ Some q → Explained p n m most rs f q
 explained_by {q = q} g e = g.gives q e
 
 pub inverse_explained : {p a : ℕ} {q : Refusal} → InverseCall p a (refused q) → Explained p 0 [] 0 [] (a ∷ []) q
@@ -251,7 +252,7 @@ period_tells p n m c S F C = (C.refusal _ (shape_past p n m _ S ∙ entry_here 5
 -- from where entries are looked at, us the tests behind those of the rows
 entries_told : {A B : Type 0} {R : A → B → Type 0} {q : Option Refusal} {old new : B} {x : Answer A} (p n : ℕ) (m rs f : List ℕ) (us : List (Option Refusal))
     → q ≡ first (refuse_at 5 (bad_entry p n m) ∷ refuse_at 10 (bad_entry p n rs) ∷ us)
-    → ((c : Cell) → FirstBad 0 p (length f) f c → first us ≡ some (at 11 c.row c.column)) → Called q R old x new → EntriesTold p n m rs f x
+    → ((c : Cell) → FirstBad 0 p (length f) f c → first us ≡ Some (at 11 c.row c.column)) → Called q R old x new → EntriesTold p n m rs f x
 entries_told p n m rs f us e h C = record {
   matrix_told = λ c F. (C.refusal _ (e ∙ entry_here 5 p n m _ c F)).0;
   row_told = λ c s F. (C.refusal _ (e ∙ entry_past 5 p n m _ s ∙ entry_here 10 p n rs _ c F)).0;

@@ -14,7 +14,7 @@ use mathlib.Core.Path.{◌≡◌, refl, sym, ap, subst, ◌∙◌}
 use mathlib.Core.Bool.{Bool, true, not, ◌&&◌, and-eq-true_iff}
 use mathlib.Core.Logic.{◌⊎◌, inl, inr, ⊎_elim}
 use mathlib.Core.List.{List, [], ◌∷◌, ◌++◌, map}
-use mathlib.Core.Option.{Option, none, some}
+use Rattle.std.specs.Prelude.{Option, None, Some}
 use Prim.Native.Nat.{ℕ, suc, ◌+◌, ◌*◌, ◌^◌, ◌<◌, ◌≤◌}
 use Prim.Native.String.{String}
 use native.Mathlib.Omega.{arith}
@@ -51,9 +51,9 @@ case_prime {c} i = (is_prime_prime c.p i.well_formed.prime).0
 
 pub case_refused_by_none : (c : Case) → WellFormed c → (poly image product stages : List ℕ) → c.n + 1 ≤ length poly → c.n ≤ length image → c.n + 1 ≤ length product
     → 2 * c.n ≤ length stages
-    → (stand_refusal c.p c.n (matrix_bytes c) (candidate_bytes c) poly image ≡ none)
-    × (chain_refusal c.p c.n (matrix_bytes c) (candidate_bytes c) product stages ≡ none)
-    × (period_refusal c.p c.n (matrix_bytes c) ≡ none)
+    → (stand_refusal c.p c.n (matrix_bytes c) (candidate_bytes c) poly image ≡ None)
+    × (chain_refusal c.p c.n (matrix_bytes c) (candidate_bytes c) product stages ≡ None)
+    × (period_refusal c.p c.n (matrix_bytes c) ≡ None)
 case_refused_by_none c W poly image product stages h i j k =
     let A = case_sound c W in
     let B = case_sound_rows c W in (
@@ -94,8 +94,8 @@ sheet_unique {s} (refused j n P q) (refused k o Q r) = q ∙ ap (λ k. text (ref
 
 allowance_bound : (a : Option (ℕ × ℕ)) → Halves a → allowance_in a ≤ 16383
 unfolding default_allowance
-allowance_bound none h = omega arith
-allowance_bound (some a) h = omega (arith, h.0, h.1)
+allowance_bound None h = omega arith
+allowance_bound (Some a) h = omega (arith, h.0, h.1)
 
 pub sheet_room_lem : {s t : List ℕ} → IsSheet s t → length s < 2 ^ 64 → length t ≤ sheet_room
 sheet_room_lem (sheet c xs i L q) h =
@@ -135,10 +135,10 @@ behind_not w l s c y z n st o h = last o (stages_past w l s st (chain_line n st 
   where
     last : (o : Option ℕ) → ¬ Has (chain_line n st ∷ period_line o ∷ []) w l
     last o (inl h) = other_word_lem "CHAIN" w c h.0
-    last none (inr (inl h)) = other_word_lem "PERIOD none" w z h.0
-    last (some t) (inr (inl h)) = other_word_lem "PERIOD" w y h.0
-    last none (inr (inr x)) = elim x [ ]
-    last (some t) (inr (inr x)) = elim x [ ]
+    last None (inr (inl h)) = other_word_lem "PERIOD none" w z h.0
+    last (Some t) (inr (inl h)) = other_word_lem "PERIOD" w y h.0
+    last None (inr (inr x)) = elim x [ ]
+    last (Some t) (inr (inr x)) = elim x [ ]
 
 -- so a MINPOLY line is that of a proved stand, a DIVISOR line that of a short one, with its WITNESS line behind it, and a REFUSED line that of no case
 abbrev printed_lines : {p : ℕ} → ℕ → (S p → S p) → Standing → Outcome → Poly p → List (WithDegree p) → Option ℕ → List Line

@@ -10,7 +10,7 @@
 -- Assumes nothing.
 use mathlib.Core.Path.{◌≡◌, refl, sym, ap, ◌∙◌}
 use mathlib.Core.List.{List}
-use mathlib.Core.Option.{some}
+use Rattle.std.specs.Prelude.{Some}
 use Prim.Native.Nat.{ℕ, ◌+◌, ◌*◌, ◌/◌, ◌<◌, ◌≤◌}
 use native.Mathlib.Omega.{arith}
 use lib.ListN.{length, take, drop}
@@ -88,7 +88,7 @@ written_values p n m cs a C =
       },
     )
 
-pub case_rewritten : {s old new : List ℕ} {c : Case} {h : ℕ × ℕ} {x : Answer ℕ} → IsCase s c → c.allowance ≡ some h → length s ≤ length old
+pub case_rewritten : {s old new : List ℕ} {c : Case} {h : ℕ × ℕ} {x : Answer ℕ} → IsCase s c → c.allowance ≡ Some h → length s ≤ length old
     → WriteCall c.p c.n (matrix_bytes c) (candidate_bytes c) (allowance_of c) old x new → (x ≡ given (length s)) × (new ≡ write s old)
 unfolding case_written
 case_rewritten {s} {old} {c = c} I e l C =

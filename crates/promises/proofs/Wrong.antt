@@ -14,7 +14,7 @@
 use mathlib.Core.Path.{◌≡◌, refl, ap, ap₂, subst}
 use mathlib.Core.Bool.{Bool, false}
 use mathlib.Core.List.{List, [], ◌∷◌, map}
-use mathlib.Core.Option.{Option, none, some}
+use Rattle.std.specs.Prelude.{Option, None, Some}
 use Prim.Native.Nat.{ℕ}
 use Prim.Native.String.{String}
 use Rattle.algebra.specs.Field.{fp, 𝟘, 𝟙, ◌⊕◌, ◌⊗◌, neg, is_zero}
@@ -104,8 +104,8 @@ outcome_numbers : Outcome → List ℕ
 outcome_numbers r = standing_number r.standing ∷ r.degree ∷ r.taken ∷ r.spent ∷ r.witness ∷ []
 
 option_numbers : Option ℕ → List ℕ
-option_numbers none = []
-option_numbers (some t) = t ∷ []
+option_numbers None = []
+option_numbers (Some t) = t ∷ []
 
 reply_numbers : Reply → List (List ℕ)
 reply_numbers (inverse_reply p a x) = answer_numbers option_numbers x ∷ []

@@ -10,7 +10,7 @@
 --   P1, P2, P3, P4, P5, P6, P7, P8, P9, P10, P11, table   the figures, with 01's words for each
 -- Assumes nothing.
 use Rattle.std.specs.Prelude.{◌≡◌, List, [], ◌∷◌, map, ℕ, suc, length}
-use Rattle.std.proofs.Math.Option.{Option, none, some}
+use Rattle.std.specs.Prelude.{Option, None, Some}
 use Rattle.algebra.specs.Poly.{Poly, coef}
 use Rattle.algebra.specs.Orders.{WithDegree, product}
 use Rattle.meaning.specs.Bytes.{times, bytes}
@@ -39,8 +39,8 @@ pub record Figure : Type 0 where
   pub shows : Columns
 
 abbrev pub asked : {A : Type 0} → Option A → A → Option A
-asked none x = none
-asked (some y) x = some x
+asked None x = None
+asked (Some y) x = Some x
 
 -- a polynomial with its degree, up to the leading 1
 unfoldable pub written : {p : ℕ} → WithDegree p → List ℕ
@@ -90,10 +90,10 @@ stand s f t k w v =
       spent = k;
       witness = w;
       image = v;
-      count = none;
-      stages = none;
-      product = none;
-      period = none;
+      count = None;
+      stages = None;
+      product = None;
+      period = None;
     }
 
 -- and beside them those of chain and period: number of stages, stages, product, period
@@ -114,58 +114,58 @@ chained c st pr t s =
 
 -- 2, [0], none, 9: short, F = 1, taken 0, spent 0, witness 1, image 1
 abbrev pub P1 : Figure
-P1 = figure 2 1 (0 ∷ []) [] 9 (stand short (1 ∷ []) (some 0) (some 0) (some 1) (some (1 ∷ [])))
+P1 = figure 2 1 (0 ∷ []) [] 9 (stand short (1 ∷ []) (Some 0) (Some 0) (Some 1) (Some (1 ∷ [])))
 
 -- 2, [0], (0)(1), 0: short, F = 1, taken 1, spent 0, witness 1
 abbrev pub P2 : Figure
-P2 = figure 2 1 (0 ∷ []) (0 ∷ 1 ∷ []) 0 (stand short (1 ∷ []) (some 1) (some 0) (some 1) none)
+P2 = figure 2 1 (0 ∷ []) (0 ∷ 1 ∷ []) 0 (stand short (1 ∷ []) (Some 1) (Some 0) (Some 1) None)
 
 -- 2, [0], (1), 1: proved, 0 1
 abbrev pub P3 : Figure
-P3 = figure 2 1 (0 ∷ []) (1 ∷ []) 1 (stand proved (0 ∷ 1 ∷ []) none none none none)
+P3 = figure 2 1 (0 ∷ []) (1 ∷ []) 1 (stand proved (0 ∷ 1 ∷ []) None None None None)
 
 -- 3, [0 1 | 2 0], (1,0), 1: short, F = 1, taken 0, witness 1, image 1 0
 abbrev pub P4 : Figure
-P4 = figure 3 2 (0 ∷ 1 ∷ 2 ∷ 0 ∷ []) (1 ∷ 0 ∷ []) 1 (stand short (1 ∷ []) (some 0) none (some 1) (some (1 ∷ 0 ∷ [])))
+P4 = figure 3 2 (0 ∷ 1 ∷ 2 ∷ 0 ∷ []) (1 ∷ 0 ∷ []) 1 (stand short (1 ∷ []) (Some 0) None (Some 1) (Some (1 ∷ 0 ∷ [])))
 
 -- the same, 2: proved, 1 0 1, spent 2
 abbrev pub P5 : Figure
-P5 = figure 3 2 (0 ∷ 1 ∷ 2 ∷ 0 ∷ []) (1 ∷ 0 ∷ []) 2 (stand proved (1 ∷ 0 ∷ 1 ∷ []) none (some 2) none none)
+P5 = figure 3 2 (0 ∷ 1 ∷ 2 ∷ 0 ∷ []) (1 ∷ 0 ∷ []) 2 (stand proved (1 ∷ 0 ∷ 1 ∷ []) None (Some 2) None None)
 
 -- 5, identity n=2, (1,0), 9: proved, 4 1; chain 4 1 twice, product 1 3 1; period 1
 abbrev pub P6 : Figure
 P6 =
     figure 5 2 (1 ∷ 0 ∷ 0 ∷ 1 ∷ []) (1 ∷ 0 ∷ []) 9
-    (chained (some 2) (some ((4 ∷ 1 ∷ []) ∷ (4 ∷ 1 ∷ []) ∷ [])) (some (1 ∷ 3 ∷ 1 ∷ [])) (some (some 1))
-    (stand proved (4 ∷ 1 ∷ []) none none none none))
+    (chained (Some 2) (Some ((4 ∷ 1 ∷ []) ∷ (4 ∷ 1 ∷ []) ∷ [])) (Some (1 ∷ 3 ∷ 1 ∷ [])) (Some (Some 1))
+    (stand proved (4 ∷ 1 ∷ []) None None None None))
 
 -- 3, [1 0 | 0 2], (1,0)(1,0), 9: short, 2 1, taken 2, spent 2, witness 2, image 0 1
 abbrev pub P7 : Figure
 P7 =
     figure 3 2 (1 ∷ 0 ∷ 0 ∷ 2 ∷ []) (1 ∷ 0 ∷ 1 ∷ 0 ∷ []) 9
-    (stand short (2 ∷ 1 ∷ []) (some 2) (some 2) (some 2) (some (0 ∷ 1 ∷ [])))
+    (stand short (2 ∷ 1 ∷ []) (Some 2) (Some 2) (Some 2) (Some (0 ∷ 1 ∷ [])))
 
 -- the same M, (1,0)(0,1), 9: proved, 2 0 1, spent 2; period 2
 abbrev pub P8 : Figure
 P8 =
     figure 3 2 (1 ∷ 0 ∷ 0 ∷ 2 ∷ []) (1 ∷ 0 ∷ 0 ∷ 1 ∷ []) 9
-    (chained none none none (some (some 2)) (stand proved (2 ∷ 0 ∷ 1 ∷ []) none (some 2) none none))
+    (chained None None None (Some (Some 2)) (stand proved (2 ∷ 0 ∷ 1 ∷ []) None (Some 2) None None))
 
 -- the same M, (1,1)(0,0), 1: short, F = 1, taken 0
 abbrev pub P9 : Figure
-P9 = figure 3 2 (1 ∷ 0 ∷ 0 ∷ 2 ∷ []) (1 ∷ 1 ∷ 0 ∷ 0 ∷ []) 1 (stand short (1 ∷ []) (some 0) none none none)
+P9 = figure 3 2 (1 ∷ 0 ∷ 0 ∷ 2 ∷ []) (1 ∷ 1 ∷ 0 ∷ 0 ∷ []) 1 (stand short (1 ∷ []) (Some 0) None None None)
 
 -- 2, [0 1 | 0 0], (0,1), 9: short, 0 1, witness 1, image 0 1; two stages 0 1; product 0 0 1; period none
 abbrev pub P10 : Figure
 P10 =
     figure 2 2 (0 ∷ 1 ∷ 0 ∷ 0 ∷ []) (0 ∷ 1 ∷ []) 9
-    (chained (some 2) (some ((0 ∷ 1 ∷ []) ∷ (0 ∷ 1 ∷ []) ∷ [])) (some (0 ∷ 0 ∷ 1 ∷ [])) (some none)
-    (stand short (0 ∷ 1 ∷ []) none none (some 1) (some (0 ∷ 1 ∷ []))))
+    (chained (Some 2) (Some ((0 ∷ 1 ∷ []) ∷ (0 ∷ 1 ∷ []) ∷ [])) (Some (0 ∷ 0 ∷ 1 ∷ [])) (Some None)
+    (stand short (0 ∷ 1 ∷ []) None None (Some 1) (Some (0 ∷ 1 ∷ []))))
 
 -- the same M, (1,0), 9: proved, 0 0 1; one stage
 abbrev pub P11 : Figure
 P11 =
-    figure 2 2 (0 ∷ 1 ∷ 0 ∷ 0 ∷ []) (1 ∷ 0 ∷ []) 9 (chained (some 1) none none none (stand proved (0 ∷ 0 ∷ 1 ∷ []) none none none none))
+    figure 2 2 (0 ∷ 1 ∷ 0 ∷ 0 ∷ []) (1 ∷ 0 ∷ []) 9 (chained (Some 1) None None None (stand proved (0 ∷ 0 ∷ 1 ∷ []) None None None None))
 
 unfoldable pub table : List Figure
 table = P1 ∷ P2 ∷ P3 ∷ P4 ∷ P5 ∷ P6 ∷ P7 ∷ P8 ∷ P9 ∷ P10 ∷ P11 ∷ []

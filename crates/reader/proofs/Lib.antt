@@ -1,5 +1,3 @@
-pub mod Slices
-pub mod Stretch
 pub mod Look
 pub mod Stepping
 pub mod Steps

@@ -10,11 +10,11 @@
 use mathlib.Core.Path.{◌≡◌, refl, sym, ap, ap₂, subst, ◌∙◌}
 use mathlib.Core.Bool.{false}
 use mathlib.Core.List.{List, [], ◌∷◌, ◌++◌}
-use mathlib.Core.Option.{some}
+use Rattle.std.specs.Prelude.{Option, None, Some, Ok}
 use Prim.Native.Nat.{ℕ, suc, ◌+◌, ◌-◌, ◌≤◌}
 use native.Mathlib.Omega.{arith}
 use lib.ListN.{length, get_or, take, drop, length-drop, take-append-drop}
-use lib.Seq.{slice, drop-drop, take_at, length-take-le}
+use lib.Seq.{slice, drop-drop, take-add, take_at, drop_at, length-take-le}
 use lib.Dec.{leb, ltb, eqb}
 use borrow.Author.Tests.{le-ltb, ltb-true, ltb-false, leb-true, eqb-true}
 use Rattle.algebra.proofs.Field.{pick_each}
@@ -32,10 +32,8 @@ use Rattle.scan.proofs.Records.Fits.{fits_field, fits_allow, fits_row, fits_cand
 use Rattle.reader.specs.declared.Step.{Step}
 use Rattle.reader.specs.declared.Step.TheVariants as step
 use Rattle.reader.specs.declared.Ahead.{Ahead}
-use Rattle.reader.specs.declared.Ahead.TheVariants as ahead
 use Rattle.reader.specs.Step.{record_of, stepped_to}
-use Rattle.reader.specs.Look.{field_at, body_at, record_at}
-use Rattle.reader.proofs.Slices.{slice_part}
+use Rattle.reader.specs.Look.{ahead, field_at, body_at, record_at}
 
 pub record LiesAt (s : List ℕ) (at : ℕ) (t : List ℕ) : Type 0 where
   pub rest : List ℕ
@@ -46,24 +44,27 @@ pub lies_front : {s : List ℕ} {at : ℕ} {t : List ℕ} (w : ℕ) → at ≤ l
 lies_front {s} {at} w h e =
     record { rest = drop w (drop at s); within = h; there = sym (take-append-drop w (drop at s)) ∙ ap (λ u. u ++ drop w (drop at s)) e }
 
+slice_part : (s : List ℕ) (a n : ℕ) → a ≤ length s → slice a (a + n) s ≡ take n (drop a s)
+slice_part s a n h = ap (drop a) (take-add a n s) ∙ drop_at (take a s) (take n (drop a s)) a (length-take-le a s h)
+
 -- the entries behind a mark
 slice_entries : {s : List ℕ} {at a b : ℕ} {l : List ℕ} (n : ℕ) → LiesAt s at (a ∷ b ∷ l) → length l ≡ n → slice (at + 2) (at + 2 + n) s ≡ l
 slice_entries {s} {at} {l = l} n L k =
     let w : length s - at ≡ suc (suc (length (l ++ L.rest))) = sym (length-drop at s) ∙ ap length L.there in
     slice_part s (at + 2) n (omega (arith, L.within)) ∙ ap (take n) (sym (drop-drop 2 at s) ∙ ap (drop 2) L.there) ∙ take_at l L.rest n k
 
-pub record Peeked (s : List ℕ) (at : ℕ) (x : Record) (a : Ahead) : Type 0 where
+pub record Peeked (s : List ℕ) (at : ℕ) (x : Record) (a : Option Ahead) : Type 0 where
   pub said : Step
   pub next : ℕ
-  pub ahead : a ≡ ahead.Record said next
-  pub is : record_of s (stepped_to said at next) ≡ some x
+  pub lies : a ≡ Some (ahead said next)
+  pub is : record_of s (stepped_to (Ok said) at next) ≡ Some x
   pub behind : next ≡ at + length (record_bytes x)
 
 peek_field : {s : List ℕ} {at p n : ℕ} → LiesAt s at (255 ∷ 70 ∷ p ∷ n ∷ []) → Peeked s at (field p n) (field_at at (drop at s))
 unfolding field_at record_bytes
 peek_field {at = at} {p} {n} L =
     rw (L.there, le-ltb (length (255 ∷ 70 ∷ p ∷ n ∷ L.rest)) 4 (omega arith))
-    (record { said = step.Field p n; next = at + 4; ahead = refl; is = refl; behind = refl })
+    (record { said = step.Field p n; next = at + 4; lies = refl; is = refl; behind = refl })
 
 -- behind F
 module _ {s : List ℕ} {at : ℕ} (n : ℕ) where
@@ -71,24 +72,24 @@ module _ {s : List ℕ} {at : ℕ} (n : ℕ) where
   unfolding body_at record_bytes
   peek_allow {high} {low} L =
       rw (L.there, le-ltb (length (255 ∷ 65 ∷ high ∷ low ∷ L.rest)) 2 (omega arith), le-ltb (length (255 ∷ 65 ∷ high ∷ low ∷ L.rest)) 4 (omega arith))
-      (record { said = step.Allow high low; next = at + 4; ahead = refl; is = refl; behind = refl })
+      (record { said = step.Allow high low; next = at + 4; lies = refl; is = refl; behind = refl })
 
   peek_row : {l : List ℕ} → LiesAt s at (255 ∷ 82 ∷ l) → length l ≡ n → Peeked s at (row l) (body_at n at (drop at s))
   unfolding body_at record_bytes
   peek_row {l} L k =
       rw (L.there, le-ltb (length (255 ∷ 82 ∷ (l ++ L.rest))) 2 (omega arith))
-      (record { said = step.Row; next = at + 2 + n; ahead = refl; is = ap (λ v. some (row v)) (slice_entries n L k); behind = omega arith })
+      (record { said = step.Row; next = at + 2 + n; lies = refl; is = ap (λ v. Some (row v)) (slice_entries n L k); behind = omega arith })
 
   peek_candidate : {l : List ℕ} → LiesAt s at (255 ∷ 67 ∷ l) → length l ≡ n → Peeked s at (candidate l) (body_at n at (drop at s))
   unfolding body_at record_bytes
   peek_candidate {l} L k =
       rw (L.there, le-ltb (length (255 ∷ 67 ∷ (l ++ L.rest))) 2 (omega arith))
-      (record { said = step.Candidate; next = at + 2 + n; ahead = refl; is = ap (λ v. some (candidate v)) (slice_entries n L k); behind = omega arith })
+      (record { said = step.Candidate; next = at + 2 + n; lies = refl; is = ap (λ v. Some (candidate v)) (slice_entries n L k); behind = omega arith })
 
   peek_end : LiesAt s at (255 ∷ 69 ∷ []) → Peeked s at end (body_at n at (drop at s))
   unfolding body_at record_bytes
   peek_end L =
-      rw (L.there, le-ltb (length (255 ∷ 69 ∷ L.rest)) 2 (omega arith)) (record { said = step.End; next = at + 2; ahead = refl; is = refl; behind = refl })
+      rw (L.there, le-ltb (length (255 ∷ 69 ∷ L.rest)) 2 (omega arith)) (record { said = step.End; next = at + 2; lies = refl; is = refl; behind = refl })
 
 pub fits_peek : {q z : State} {x : Record} {s : List ℕ} {at : ℕ} → Fits q x z → LiesAt s at (record_bytes x) → Peeked s at x (record_at q at (drop at s))
 unfolding record_bytes record_at
@@ -178,9 +179,9 @@ module _ (h : Head) where
       }
 
 -- the bytes up to where the record ends by its letter
-abbrev Fit : State → ℕ → List ℕ → Ahead → Type 0
-Fit q at t (ahead.Record x e) = e - at ≤ length t → Alive (run q (take (e - at) t)) → FitsAs q (take (e - at) t)
-Fit q at t ahead.Nothing = Unit {0}
+abbrev Fit : State → ℕ → List ℕ → Option Ahead → Type 0
+Fit q at t (Some a) = a.next - at ≤ length t → Alive (run q (take (a.next - at) t)) → FitsAs q (take (a.next - at) t)
+Fit q at t None = Unit {0}
 
 -- the first bytes, where there are as many
 first_two : (t : List ℕ) (w k : ℕ) → w ≡ suc (suc k) → 2 ≤ length t → take w t ≡ get_or t 0 0 ∷ get_or t 1 0 ∷ take k (drop 2 t)
@@ -207,7 +208,7 @@ fit_field at t =
 fit_body : (h : Head) (at : ℕ) (t : List ℕ) → Fit (Body h) at t (body_at h.n at t)
 unfolding body_at
 fit_body h at t =
-    let F : Ahead → Type 0 = Fit (Body h) at t in
+    let F : Option Ahead → Type 0 = Fit (Body h) at t in
     let b : ℕ = get_or t 1 0 in
     let w : ℕ = at + 2 + h.n - at in
     let k : w ≡ suc (suc h.n) = omega arith in
@@ -238,14 +239,14 @@ fit_record (Entries h bound left) at t = tt
 fit_record (Over h) at t = tt
 fit_record Dead at t = tt
 
-pub alive_fits : {q : State} {x : Step} {e : ℕ} (at : ℕ) (t : List ℕ) → record_at q at t ≡ ahead.Record x e → e - at ≤ length t → Alive (run q (take (e - at) t))
+pub alive_fits : {q : State} {x : Step} {e : ℕ} (at : ℕ) (t : List ℕ) → record_at q at t ≡ Some (ahead x e) → e - at ≤ length t → Alive (run q (take (e - at) t))
     → FitsAs q (take (e - at) t)
 alive_fits {q} at t h = subst (Fit q at t) h (fit_record q at t)
 
 -- the offset behind a record is not in front of it
-abbrev Far : ℕ → Ahead → Type 0
-Far at (ahead.Record x e) = at ≤ e
-Far at ahead.Nothing = Unit {0}
+abbrev Far : ℕ → Option Ahead → Type 0
+Far at (Some a) = at ≤ a.next
+Far at None = Unit {0}
 
 far_field : (at : ℕ) (t : List ℕ) → Far at (field_at at t)
 unfolding field_at
@@ -272,5 +273,5 @@ far_record (Entries h bound left) at t = tt
 far_record (Over h) at t = tt
 far_record Dead at t = tt
 
-pub peek_far : {x : Step} {at e : ℕ} (q : State) (t : List ℕ) → record_at q at t ≡ ahead.Record x e → at ≤ e
+pub peek_far : {x : Step} {at e : ℕ} (q : State) (t : List ℕ) → record_at q at t ≡ Some (ahead x e) → at ≤ e
 peek_far {at = at} q t h = subst (Far at) h (far_record q at t)

@@ -9,7 +9,8 @@
 -- Assumes nothing.
 use mathlib.Core.Path.{◌≡◌, refl, sym, ap, ap₂, subst, ◌∙◌}
 use mathlib.Core.List.{List, ◌++◌, append_cancel_left}
-use mathlib.Core.Option.{some, none-ne-some, some-injective}
+use Rattle.std.specs.Prelude.{Option, None, Some, Result, Ok, Err}
+use Rattle.std.proofs.lemmas.Option.{none-some, same_Some}
 use Prim.Native.Nat.{ℕ, ◌+◌, ◌-◌, ◌<◌, ◌≤◌}
 use native.Mathlib.Omega.{arith}
 use lib.ListN.{length, take, drop, length-take, length-drop, length-append}
@@ -31,10 +32,9 @@ use Rattle.reader.specs.declared.Step.{Step}
 use Rattle.reader.specs.declared.Step.TheVariants as step
 use Rattle.reader.specs.declared.Stepped.{Stepped}
 use Rattle.reader.specs.declared.Ahead.{Ahead}
-use Rattle.reader.specs.declared.Ahead.TheVariants as ahead
 use Rattle.reader.specs.Step.{record_with, record_of, refusal_of, NextRecord, Ended, StepIs, stepped_to}
 use Rattle.reader.specs.Step.StepIs.{hands, over, refuses}
-use Rattle.reader.specs.Look.{record_at}
+use Rattle.reader.specs.Look.{ahead, record_at}
 use Rattle.reader.proofs.Look.{LiesAt, lies_front, Peeked, fits_peek, FitsAs, alive_fits, peek_far}
 
 -- a next record, by the machine
@@ -96,17 +96,11 @@ ended_before {s} {at} {k} E P =
     place_past s k at P (omega (arith, E.length_of)) (viable_begins (take at s) (subst Viable (sym (ended_comes E)) tt))
 
 -- what lies ahead is one thing
-ahead_same : {x y : Step} {e f : ℕ} → ahead.Record x e ≡ ahead.Record y f → (x ≡ y) × (e ≡ f)
-ahead_same h = (cc, cc)
-
-peeked_is : {s : List ℕ} {at e : ℕ} {x : Record} {y : Step} {a : Ahead} → Peeked s at x a → a ≡ ahead.Record y e
-    → (record_of s (stepped_to y at e) ≡ some x) × (e ≡ at + length (record_bytes x))
+peeked_is : {s : List ℕ} {at e : ℕ} {x : Record} {y : Step} {a : Option Ahead} → Peeked s at x a → a ≡ Some (ahead y e)
+    → (record_of s (stepped_to (Ok y) at e) ≡ Some x) × (e ≡ at + length (record_bytes x))
 peeked_is {s} {at} P h =
-    let same = ahead_same (sym h ∙ P.ahead) in
-    (ap₂ (λ z j. record_of s (stepped_to z at j)) same.0 same.1 ∙ P.is, same.1 ∙ P.behind)
-
-nothing_record : {x : Step} {e : ℕ} → ahead.Nothing ≡ ahead.Record x e → ⊥
-nothing_record h = let z : ◌≡◌ {A = ℕ} 0 1 = cc in omega arith
+    let same = same_Some _ _ (sym h ∙ P.lies) in
+    (ap (λ (a : Ahead). record_of s (stepped_to (Ok a.step) at a.next)) same ∙ P.is, ap (λ (a : Ahead). a.next) same ∙ P.behind)
 
 -- the answers of the code
 fits_next : {s : List ℕ} {at w : ℕ} {q : State} → Scans s at q → w ≤ length (drop at s) → (F : FitsAs q (take w (drop at s))) → NextRecord s at F.read
@@ -125,14 +119,14 @@ fits_next {s} {at} {w} {q} R h F =
       holds = take-add at (length (record_bytes F.read)) s ∙ ap₂ ◌++◌ A.bytes (ap (λ j. take j (drop at s)) size ∙ F.bytes);
     }
 
-fits_handed : {s : List ℕ} {at e : ℕ} {q : State} {x : Step} (w : ℕ) → Scans s at q → record_at q at (drop at s) ≡ ahead.Record x e → w ≤ length (drop at s)
-    → FitsAs q (take w (drop at s)) → StepIs s at (stepped_to x at e)
+fits_handed : {s : List ℕ} {at e : ℕ} {q : State} {x : Step} (w : ℕ) → Scans s at q → record_at q at (drop at s) ≡ Some (ahead x e) → w ≤ length (drop at s)
+    → FitsAs q (take w (drop at s)) → StepIs s at (stepped_to (Ok x) at e)
 fits_handed w R h size F =
     let is = peeked_is (fits_peek F.fits (lies_front w R.within F.bytes)) h in
     hands F.read (fits_next R size F) is.0 refl is.1
 
-pub step_hands : {s : List ℕ} {at e : ℕ} {q z : State} {x : Step} → Scans s at q → record_at q at (drop at s) ≡ ahead.Record x e → Scans s e z
-    → StepIs s at (stepped_to x at e)
+pub step_hands : {s : List ℕ} {at e : ℕ} {q z : State} {x : Step} → Scans s at q → record_at q at (drop at s) ≡ Some (ahead x e) → Scans s e z
+    → StepIs s at (stepped_to (Ok x) at e)
 step_hands {s} {at} {e} {q} {z} R h Z =
     let far : at ≤ e = peek_far q (drop at s) h in
     let w : ℕ = e - at in
@@ -143,59 +137,59 @@ step_hands {s} {at} {e} {q} {z} R h Z =
     ap (λ y. run y t) (sym R.comes) ∙ sym (run_append Start (take at s) t) ∙ ap (run Start) (sym (take-add at w s) ∙ ap (λ j. take j s) sum) ∙ Z.comes in
     fits_handed w R h size (alive_fits at (drop at s) h size (viable_alive (subst Viable (sym comes) Z.viable)))
 
-pub step_over : {s : List ℕ} {at : ℕ} {q : State} {h : Head} → Scans s at q → q ≡ Over h → at ≡ length s → StepIs s at (stepped_to step.Over at at)
+pub step_over : {s : List ℕ} {at : ℕ} {q : State} {h : Head} → Scans s at q → q ≡ Over h → at ≡ length s → StepIs s at (stepped_to (Ok step.Over) at at)
 step_over {s} {at} {h = h} R e l =
     let c = over_case {h = h} s (ap (run Start) (sym (ap (λ k. take k s) l ∙ take-length s)) ∙ R.comes ∙ e) in
     over (record { case = c.0; is = c.1; length_of = l }) refl refl refl
 
-pub step_early : {s : List ℕ} {at k : ℕ} → Place s k → k < at → StepIs s at (stepped_to (step.Refused k) at at)
+pub step_early : {s : List ℕ} {at k : ℕ} → Place s k → k < at → StepIs s at (stepped_to (Err k) at at)
 step_early {s} {at} {k} P h = refuses k (λ x N. omega (arith, next_before N P)) (λ E. omega (arith, ended_before E P)) P refl refl refl
 
-pub step_cut : {s : List ℕ} {at : ℕ} {q : State} → Scans s at q → at ≡ length s → ((h : Head) → q ≡ Over h → ⊥) → StepIs s at (stepped_to (step.Refused at) at at)
+pub step_cut : {s : List ℕ} {at : ℕ} {q : State} → Scans s at q → at ≡ length s → ((h : Head) → q ≡ Over h → ⊥) → StepIs s at (stepped_to (Err at) at at)
 step_cut {s} {at} R h f =
     refuses at (λ x N. omega (arith, (next_standing N).within, record_long x)) (λ E. f _ (sym R.comes ∙ ended_comes E)) (place_end R (omega arith)) refl refl refl
 
-pub step_stops : {s : List ℕ} {at e k : ℕ} {q : State} {x : Step} → Scans s at q → (at ≡ length s → ⊥) → record_at q at (drop at s) ≡ ahead.Record x e
-    → Place s k → k < e → StepIs s at (stepped_to (step.Refused k) at at)
+pub step_stops : {s : List ℕ} {at e k : ℕ} {q : State} {x : Step} → Scans s at q → (at ≡ length s → ⊥) → record_at q at (drop at s) ≡ Some (ahead x e)
+    → Place s k → k < e → StepIs s at (stepped_to (Err k) at at)
 step_stops {s} {at} {e} {k} R f h P l =
     let far : (y : Record) → NextRecord s at y → e ≡ at + length (record_bytes y) = λ y N. (peeked_is (next_peeked N R.comes) h).1 in
     refuses k (λ y N. omega (arith, next_before N P, far y N)) (λ E. f E.length_of) P refl refl refl
 
-pub step_nothing : {s : List ℕ} {at k : ℕ} {q : State} → Scans s at q → (at ≡ length s → ⊥) → record_at q at (drop at s) ≡ ahead.Nothing → Place s k
-    → StepIs s at (stepped_to (step.Refused k) at at)
+pub step_nothing : {s : List ℕ} {at k : ℕ} {q : State} → Scans s at q → (at ≡ length s → ⊥) → record_at q at (drop at s) ≡ None → Place s k
+    → StepIs s at (stepped_to (Err k) at at)
 step_nothing {k = k} R f h P =
-    refuses k (λ y N. nothing_record (sym h ∙ (next_peeked N R.comes).ahead)) (λ E. f E.length_of) P refl refl refl
+    refuses k (λ y N. none-some _ (sym h ∙ (next_peeked N R.comes).lies)) (λ E. f E.length_of) P refl refl refl
 
 -- any two answers agree
-abbrev step_of : Record → Step
-step_of (field p n) = step.Field p n
-step_of (allow high low) = step.Allow high low
-step_of (row l) = step.Row
-step_of (candidate l) = step.Candidate
-step_of end = step.End
+abbrev step_of : Record → Result Step ℕ
+step_of (field p n) = Ok (step.Field p n)
+step_of (allow high low) = Ok (step.Allow high low)
+step_of (row l) = Ok step.Row
+step_of (candidate l) = Ok step.Candidate
+step_of end = Ok step.End
 
-step-known : (l : List ℕ) (a : Step) (x : Record) → record_with l a ≡ some x → a ≡ step_of x
-step-known l (step.Field p n) x h = ap step_of (some-injective _ _ h)
-step-known l (step.Allow high low) x h = ap step_of (some-injective _ _ h)
-step-known l step.Row x h = ap step_of (some-injective _ _ h)
-step-known l step.Candidate x h = ap step_of (some-injective _ _ h)
-step-known l step.End x h = ap step_of (some-injective _ _ h)
-step-known l step.Over x h = absurd (none-ne-some _ h)
-step-known l (step.Refused j) x h = absurd (none-ne-some _ h)
+step-known : (l : List ℕ) (a : Result Step ℕ) (x : Record) → record_with l a ≡ Some x → a ≡ step_of x
+step-known l (Ok (step.Field p n)) x h = ap step_of (same_Some _ _ h)
+step-known l (Ok (step.Allow high low)) x h = ap step_of (same_Some _ _ h)
+step-known l (Ok step.Row) x h = ap step_of (same_Some _ _ h)
+step-known l (Ok step.Candidate) x h = ap step_of (same_Some _ _ h)
+step-known l (Ok step.End) x h = ap step_of (same_Some _ _ h)
+step-known l (Ok step.Over) x h = absurd (none-some _ h)
+step-known l (Err j) x h = absurd (none-some _ h)
 
-pub step_refused : (a : Step) (k : ℕ) → refusal_of a ≡ some (8, k) → a ≡ step.Refused k
-step_refused (step.Field p n) k h = absurd (none-ne-some _ h)
-step_refused (step.Allow high low) k h = absurd (none-ne-some _ h)
-step_refused step.Row k h = absurd (none-ne-some _ h)
-step_refused step.Candidate k h = absurd (none-ne-some _ h)
-step_refused step.End k h = absurd (none-ne-some _ h)
-step_refused step.Over k h = absurd (none-ne-some _ h)
-step_refused (step.Refused j) k h = ap (λ x. step.Refused x.1) (some-injective _ _ h)
+pub step_refused : (a : Result Step ℕ) (k : ℕ) → refusal_of a ≡ Some (8, k) → a ≡ Err k
+step_refused (Ok (step.Field p n)) k h = absurd (none-some _ h)
+step_refused (Ok (step.Allow high low)) k h = absurd (none-some _ h)
+step_refused (Ok step.Row) k h = absurd (none-some _ h)
+step_refused (Ok step.Candidate) k h = absurd (none-some _ h)
+step_refused (Ok step.End) k h = absurd (none-some _ h)
+step_refused (Ok step.Over) k h = absurd (none-some _ h)
+step_refused (Err j) k h = ap (λ x. Err x.1) (same_Some _ _ h)
 
 next_same : {s : List ℕ} {at : ℕ} {x y : Record} → NextRecord s at x → NextRecord s at y → x ≡ y
 next_same M N =
     let Q = next_peeked N refl in
-    some-injective _ _ (sym (peeked_is (next_peeked M refl) Q.ahead).0 ∙ Q.is)
+    same_Some _ _ (sym (peeked_is (next_peeked M refl) Q.lies).0 ∙ Q.is)
 
 next_ended : {s : List ℕ} {at : ℕ} {x : Record} → NextRecord s at x → Ended s at → ⊥
 next_ended {x = x} N E = omega (arith, (next_standing N).within, record_long x, E.length_of)
@@ -215,4 +209,4 @@ step_unique (over E i c f) (refuses j n m P h d e) = absurd (m E)
 step_unique (refuses j n m P i c f) (hands x M h d e) = absurd (n x M)
 step_unique (refuses j n m P i c f) (over E h d e) = absurd (m E)
 step_unique {s} (refuses j n m P i c f) (refuses k o l Q h d e) =
-    stepped_same (step_refused _ j i ∙ ap step.Refused (place_unique s j k P Q) ∙ sym (step_refused _ k h)) (c ∙ sym d) (f ∙ sym e)
+    stepped_same (step_refused _ j i ∙ ap Err (place_unique s j k P Q) ∙ sym (step_refused _ k h)) (c ∙ sym d) (f ∙ sym e)

@@ -17,7 +17,8 @@
 use mathlib.Core.Path.{◌≡◌, refl, sym, ap, subst, ◌∙◌}
 use mathlib.Core.Logic.{◌⊎◌, ⊎_elim}
 use mathlib.Core.List.{List, [], ◌∷◌, ◌++◌, append_assoc, append-nil}
-use mathlib.Core.Option.{some, none-ne-some, some-injective}
+use Rattle.std.specs.Prelude.{Option, None, Some, Result, Ok, Err}
+use Rattle.std.proofs.lemmas.Option.{none-some, same_Some}
 use Prim.Native.Nat.{ℕ, zero, suc, ◌+◌, ◌≤◌}
 use native.Mathlib.Decide.{dec_le}
 use native.Mathlib.Nat.{le_refl, le_antisymm}
@@ -39,7 +40,6 @@ use Rattle.reader.specs.declared.Step.{Step}
 use Rattle.reader.specs.declared.Step.TheVariants as step
 use Rattle.reader.specs.declared.Stepped.{Stepped}
 use Rattle.reader.specs.declared.Ahead.{Ahead}
-use Rattle.reader.specs.declared.Ahead.TheVariants as ahead
 use Rattle.reader.specs.declared.Reader.{Reader}
 use Rattle.reader.specs.Step.{entries_in, record_with, record_of, NextRecord, Ended, StepIs, stepped_to, Handed, Ends, Stops, Moved}
 use Rattle.reader.specs.Step.StepIs.{hands, over, refuses}
@@ -50,20 +50,20 @@ use Rattle.reader.proofs.Stepping.{next_within, next-passed, next_standing, next
 use Rattle.reader.proofs.Stepping.{step_hands, step_over, step_early, step_cut, step_stops, step_nothing, step_unique}
 
 -- there is an answer
-answer_ahead : {s : List ℕ} {at : ℕ} {q : State} (a : Ahead) → Scans s at q → (at ≡ length s → ⊥) → record_at q at (drop at s) ≡ a → (r : Stepped) × StepIs s at r
-answer_ahead {s} {at} {q} (ahead.Record x e) S f h =
+answer_ahead : {s : List ℕ} {at : ℕ} {q : State} (a : Option Ahead) → Scans s at q → (at ≡ length s → ⊥) → record_at q at (drop at s) ≡ a → (r : Stepped) × StepIs s at r
+answer_ahead {s} {at} {q} (Some a) S f h =
     let Z = scan_exists S (peek_far q (drop at s) h) in
-    elim (dec_le e Z.at) [
-      | yes l ↦ (stepped_to x at e, step_hands S h (scan_to Z.is l))
-      | no l ↦ (stepped_to (step.Refused Z.at) at at, step_stops S f h (Z.is.stop (omega arith)) (omega arith))
+    elim (dec_le a.next Z.at) [
+      | yes l ↦ (stepped_to (Ok a.step) at a.next, step_hands S h (scan_to Z.is l))
+      | no l ↦ (stepped_to (Err Z.at) at at, step_stops S f h (Z.is.stop (omega arith)) (omega arith))
     ]
-answer_ahead {s} {at} ahead.Nothing S f h =
+answer_ahead {s} {at} None S f h =
     let Z = scan_exists S S.within in
-    (stepped_to (step.Refused Z.at) at at, step_nothing S f h (scan_place Z.is (le_refl _)))
+    (stepped_to (Err Z.at) at at, step_nothing S f h (scan_place Z.is (le_refl _)))
 
 answer_end : {s : List ℕ} {at : ℕ} {q : State} → Scans s at q → at ≡ length s → (r : Stepped) × StepIs s at r
 answer_end {s} {at} {q} S e =
-    ⊎_elim (λ o. (stepped_to step.Over at at, step_over S o.1 e)) (λ n. (stepped_to (step.Refused at) at at, step_cut S e n)) (over_or q)
+    ⊎_elim (λ o. (stepped_to (Ok step.Over) at at, step_over S o.1 e)) (λ n. (stepped_to (Err at) at at, step_cut S e n)) (over_or q)
 
 answer_at : {s : List ℕ} {at : ℕ} {q : State} → Scans s at q → (r : Stepped) × StepIs s at r
 answer_at {s} {at} {q} S =
@@ -77,7 +77,7 @@ step_exists s at =
     let Z = scan_exists {to = at} (scans_start s) (omega arith) in
     elim (dec_le at Z.at) [
       | yes l ↦ answer_at (scan_to Z.is l)
-      | no l ↦ (stepped_to (step.Refused Z.at) at at, step_early (Z.is.stop (omega arith)) (omega arith))
+      | no l ↦ (stepped_to (Err Z.at) at at, step_early (Z.is.stop (omega arith)) (omega arith))
     ]
 
 pub moved_unique : {q a b : Reader} {x y : Stepped} → Moved q a x → Moved q b y → (a ≡ b) × (x ≡ y)
@@ -88,19 +88,19 @@ moved_unique {a = a} {b = b} {x = x} {y = y} m n =
     (λ i. record { src = src i; at = at i }, same)
 
 -- what one step hands out
-handed_next : {s : List ℕ} {at : ℕ} {x : Record} {r : Stepped} → StepIs s at r → record_of s r ≡ some x
+handed_next : {s : List ℕ} {at : ℕ} {x : Record} {r : Stepped} → StepIs s at r → record_of s r ≡ Some x
     → NextRecord s at x × (r.next.at ≡ at + length (record_bytes x))
 handed_next {s} {at} {x} {r} (hands y N h d e) k =
-    let same : y ≡ x = some-injective _ _ (sym h ∙ k) in
+    let same : y ≡ x = same_Some _ _ (sym h ∙ k) in
     (subst (NextRecord s at) same N, e ∙ ap (λ z. at + length (record_bytes z)) same)
-handed_next {s} {r = r} (over E h d e) k = absurd (none-ne-some _ (ap (record_with (entries_in s r)) (sym h) ∙ k))
-handed_next {s} {r = r} (refuses j n m P h d e) k = absurd (none-ne-some _ (ap (record_with (entries_in s r)) (sym (step_refused r.step j h)) ∙ k))
+handed_next {s} {r = r} (over E h d e) k = absurd (none-some _ (ap (record_with (entries_in s r)) (sym h) ∙ k))
+handed_next {s} {r = r} (refuses j n m P h d e) k = absurd (none-some _ (ap (record_with (entries_in s r)) (sym (step_refused r.step j h)) ∙ k))
 
 -- what is handed out is what the next record is
-next-step : {s : List ℕ} {at : ℕ} {x : Record} → NextRecord s at x → (r : Stepped) × StepIs s at r × (record_of s r ≡ some x) × (r.next.at ≡ at + length (record_bytes x))
+next-step : {s : List ℕ} {at : ℕ} {x : Record} → NextRecord s at x → (r : Stepped) × StepIs s at r × (record_of s r ≡ Some x) × (r.next.at ≡ at + length (record_bytes x))
 next-step {s} {at} {x} N =
     let P = next_peeked N refl in
-    (stepped_to P.said at P.next, hands x N P.is refl P.behind, P.is, P.behind)
+    (stepped_to (Ok P.said) at P.next, hands x N P.is refl P.behind, P.is, P.behind)
 
 -- the records lead where the bytes do
 record Led (s : List ℕ) (xs : List Record) (at : ℕ) : Type 0 where
@@ -200,21 +200,21 @@ handed_records {s} {c} i (y ∷ ys) xs e H =
     let f : records c ≡ (xs ++ (y ∷ [])) ++ ys = e ∙ sym (append_assoc xs (y ∷ []) ys) in
     handed_records i ys (xs ++ (y ∷ [])) f (handed_more H (front_next xs ys y i.well_formed e (case_front i (xs ++ (y ∷ [])) ys f)))
 
-pub steps_case : {s : List ℕ} {c : Case} → IsCase s c → Ends s (records c) step.Over
+pub steps_case : {s : List ℕ} {c : Case} → IsCase s c → Ends s (records c) (Ok step.Over)
 unfolding case_bytes flat
 steps_case {s} {c} i =
     let at : ℕ = length (flat (records c)) in
-    let said : StepIs s at (stepped_to step.Over at at) = over (record { case = c; is = i; length_of = ap length (sym i.whole) }) refl refl refl in
+    let said : StepIs s at (stepped_to (Ok step.Over) at at) = over (record { case = c; is = i; length_of = ap length (sym i.whole) }) refl refl refl in
     record { at = at; handed = handed_records i (records c) [] refl at_front; says = said; every = λ r S. step_unique S said }
 
 -- where the steps end no record is next
-ends_no_next : {s : List ℕ} {xs : List Record} {e : Step} (E : Ends s xs e) (x : Record) → ¬ NextRecord s E.at x
+ends_no_next : {s : List ℕ} {xs : List Record} {e : Result Step ℕ} (E : Ends s xs e) (x : Record) → ¬ NextRecord s E.at x
 ends_no_next E x N =
     let r = next-step N in
     let stays : r.0.next.at ≡ E.at = ap (λ (y : Stepped). y.next.at) (E.every r.0 r.1) in
     omega (arith, r.3, record_long x)
 
-pub steps_all : {s : List ℕ} {xs : List Record} {e : Step} {c : Case} → Ends s xs e → WellFormed c → (ys zs : List Record) → records c ≡ ys ++ zs
+pub steps_all : {s : List ℕ} {xs : List Record} {e : Result Step ℕ} {c : Case} → Ends s xs e → WellFormed c → (ys zs : List Record) → records c ≡ ys ++ zs
     → BeginsWith s ys → (ws : List Record) × (xs ≡ ys ++ ws)
 steps_all {s} {xs} E w ys zs e h = ⊎_elim (λ l. go l.0 l.1) (λ l. l) (handed_compare ys zs E.handed w e h)
   where
@@ -233,7 +233,7 @@ handed_before {s} {at = at} {k = k} H P =
 
 steps_stop : {s : List ℕ} {xs : List Record} {at k : ℕ} → Handed s xs at → Place s k → ((x : Record) → ¬ NextRecord s at x) → ¬ Ended s at → Stops s k
 steps_stop {s} {xs} {at} {k} H P n m =
-    let said : StepIs s at (stepped_to (step.Refused k) at at) = refuses k n m P refl refl refl in
+    let said : StepIs s at (stepped_to (Err k) at at) = refuses k n m P refl refl refl in
     record {
       handed = xs;
       ends = record { at = at; handed = H; says = said; every = λ r S. step_unique S said };

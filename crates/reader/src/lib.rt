@@ -11,7 +11,7 @@ ghost use Rattle.reader.specs.Look.{field_at, body_at, record_at};
 
 use scan::{State, scan};
 
-// What a step says. The entries of an R or a C record are got by `entries`.
+// What a step says that is not refused. The entries of an R or a C record are got by `entries`.
 #[derive(Clone, Copy)]
 pub enum Step {
     // The F record: p and n.
@@ -25,8 +25,6 @@ pub enum Step {
     End,
     // The case is over: a step after E.
     Over,
-    // Number 8 with the place.
-    Refused(usize),
 }
 
 // A place between two records of a case; made by `front` and by steps alone.
@@ -35,19 +33,19 @@ pub struct Cursor {
     at: usize,
 }
 
-// What a step said, where it was made, and the place for the next one: behind the record that is handed out, else the same place.
+// What a step said, or the place of refusal 8; where it was made, and the place for the next one: behind the record that is handed out, else the same place.
 #[derive(Clone, Copy)]
 pub struct Stepped {
-    pub step: Step,
+    pub step: Result<Step, usize>,
     pub from: Cursor,
     pub next: Cursor,
 }
 
-// What begins at an offset, by its letter, and the offset behind it; or nothing.
+// What begins at an offset, by its letter, and the offset behind it.
 #[derive(Clone, Copy)]
-enum Ahead {
-    Record { step: Step, next: usize },
-    Nothing,
+struct Ahead {
+    step: Step,
+    next: usize,
 }
 
 // The front of a case.
@@ -59,75 +57,67 @@ pub fn front() -> Cursor
 
 // The F record at `at`, unless it is cut short.
 #[tactic(auto, unfolding(crate::specs::Look::field_at))]
-fn peek_field(s: &[u8], at: usize) -> Ahead
+fn peek_field(s: &[u8], at: usize) -> Option<Ahead>
     requires { at ≤ length s.now }
     ensures { result ≡ field_at at (drop at s.now) }
 {
-    let rest = s.len() - at;
-    if rest < 4 {
-        return Ahead::Nothing;
+    if s.len() - at < 4 {
+        return None;
     }
-    Ahead::Record {
+    Some(Ahead {
         step: Step::Field {
-            p: s[at + 2] as u32,
-            n: s[at + 3] as usize,
+            p: u32::from(s[at + 2]),
+            n: usize::from(s[at + 3]),
         },
         next: at + 4,
-    }
+    })
 }
 
 // The record behind F that begins at `at`, by its letter, unless its numbers are cut short.
 #[tactic(auto, unfolding(crate::specs::Look::body_at))]
-fn peek_body(s: &[u8], at: usize, n: u8) -> Ahead
+fn peek_body(s: &[u8], at: usize, n: u8) -> Option<Ahead>
     requires { at ≤ length s.now }
     ensures { result ≡ body_at n at (drop at s.now) }
 {
     let rest = s.len() - at;
     if rest < 2 {
-        return Ahead::Nothing;
+        return None;
     }
-    let b = s[at + 1];
-    if b == b'E' {
-        return Ahead::Record {
+    let next = at + 2 + usize::from(n);
+    match s[at + 1] {
+        b'E' => Some(Ahead {
             step: Step::End,
             next: at + 2,
-        };
-    }
-    if b == b'A' {
-        if rest < 4 {
-            return Ahead::Nothing;
-        }
-        return Ahead::Record {
+        }),
+        b'A' if rest < 4 => None,
+        b'A' => Some(Ahead {
             step: Step::Allow {
                 high: s[at + 2],
                 low: s[at + 3],
             },
             next: at + 4,
-        };
-    }
-    let next = at + 2 + n as usize;
-    if b == b'R' {
-        return Ahead::Record {
+        }),
+        b'R' => Some(Ahead {
             step: Step::Row,
             next,
-        };
-    }
-    Ahead::Record {
-        step: Step::Candidate,
-        next,
+        }),
+        _ => Some(Ahead {
+            step: Step::Candidate,
+            next,
+        }),
     }
 }
 
 // The record that begins at `at` in the state q, if the bytes up to `next` are good.
 #[tactic(auto, unfolding(crate::specs::Look::record_at))]
-fn peek(s: &[u8], at: usize, q: State) -> Ahead
+fn peek(s: &[u8], at: usize, q: State) -> Option<Ahead>
     requires { at ≤ length s.now }
     ensures { result ≡ record_at q at (drop at s.now) }
 {
     match q {
         State::Start => peek_field(s, at),
         State::Body(h) => peek_body(s, at, h.n),
-        _ => Ahead::Nothing,
+        _ => None,
     }
 }
 
@@ -136,12 +126,11 @@ fn place(s: &[u8], at: usize, q: State) -> usize
     requires { Scans s.now at q }
     ensures { Place s.now result }
 {
-    let end = scan(s, q, at, s.len());
-    end.at
+    scan(s, q, at, s.len()).at
 }
 
 // A step from one offset on to another.
-fn said(step: Step, from: usize, next: usize) -> Stepped
+fn said(step: Result<Step, usize>, from: usize, next: usize) -> Stepped
     ensures { result ≡ stepped_to step from next }
 {
     Stepped {
@@ -159,60 +148,42 @@ fn step_at(s: &[u8], at: usize) -> Stepped
     let here = scan(s, State::Start, 0, at);
     let reached = here.at;
     if reached < at {
-        return said(Step::Refused(reached), at, at);
+        return said(Err(reached), at, at);
     }
     let q = here.state;
     if at == s.len() {
         let State::Over(_) = q else {
-            return said(Step::Refused(at), at, at);
+            return said(Err(at), at, at);
         };
-        return said(Step::Over, at, at);
+        return said(Ok(Step::Over), at, at);
     }
-    match peek(s, at, q) {
-        Ahead::Record { step, next } => {
-            let there = scan(s, q, at, next);
-            let end = there.at;
-            if end < next {
-                return said(Step::Refused(end), at, at);
-            }
-            said(step, at, next)
-        }
-        Ahead::Nothing => said(Step::Refused(place(s, at, q)), at, at),
+    let Some(Ahead { step, next }) = peek(s, at, q) else {
+        return said(Err(place(s, at, q)), at, at);
+    };
+    let end = scan(s, q, at, next).at;
+    if end < next {
+        return said(Err(end), at, at);
     }
+    said(Ok(step), at, next)
 }
 
 // The bytes behind a mark at `at`, up to `end`, as far as there are any.
 fn behind_mark<'a>(s: &'a [u8], at: usize, end: usize) -> &'a [u8]
     ensures { Stretch s.entry (at + 2) (slice (at + 2) end s.now) result }
 {
-    let len = s.len();
-    if len <= at {
-        return &s[0..0];
-    }
-    let from = at + 2;
-    if end < from {
-        return &s[0..0];
-    }
-    if len < from {
-        return &s[0..0];
-    }
-    if len < end {
-        return &s[from..len];
-    }
-    &s[from..end]
+    // no bytes are behind an offset past the end, however far it is
+    let from = at.min(s.len()) + 2;
+    let to = end.min(s.len());
+    if from <= to { &s[from..to] } else { &[] }
 }
 
 // The entries of the R or C record that a step handed out: that very stretch of s, behind its mark and up to its end; none of another step.
 pub fn entries<'a>(s: &'a [u8], r: Stepped) -> &'a [u8]
     ensures { Stretch s.entry (r.from.at + 2) (entries_in s.now r) result }
 {
-    let step = r.step;
-    let at = r.from.at;
-    let end = r.next.at;
-    match step {
-        Step::Row => behind_mark(s, at, end),
-        Step::Candidate => behind_mark(s, at, end),
-        _ => &s[0..0],
+    match r.step {
+        Ok(Step::Row | Step::Candidate) => behind_mark(s, r.from.at, r.next.at),
+        _ => &[],
     }
 }
 
@@ -248,7 +219,8 @@ impl<'a> Reader<'a> {
     }
 }
 
-// The step at a place between two records, by a reader at that place.
+// The step at a place between two records, by a reader at that place. It stands beside the reader, as docs/CALLS.md has it: a cursor is a plain value that a
+// caller can keep, to make the same step again.
 pub fn step_from(s: &[u8], c: Cursor) -> Stepped
     ensures { StepIs s.now c.at result }
 {

@@ -1,17 +1,23 @@
 // Why a call is refused: each test of the refusal table by itself, and a reason as the documents number it.
 #![tactic(auto)]
 
-ghost use Rattle.std.specs.Prelude.{◌≡◌, ◌<◌, ◌≤◌};
+ghost use Rattle.std.specs.Prelude.{◌≡◌, ◌<◌, ◌≤◌, option_map};
 ghost use Rattle.meaning.specs.Refusal.{refuse, refuse_at, no_prime, no_size, no_matrix, no_rows, no_vector, no_polynomial, bad_entry, bad_coefficient};
 ghost use Rattle.meaning.specs.Refusal.{bad_scalar, no_allowance, too_short, alone as numbered};
 ghost use Rattle.meaning.specs.Bounds.{widest};
 ghost use Rattle.reasons.specs.Reasons.{as_refusal, numbers_of, checked_of, cell_of};
 
 use meaning::{COEFFICIENTS, MOST_ALLOWANCE, MOST_CANDIDATES, WIDEST};
-use rows::Found;
 
-// Why a call is refused, in the table's order. An entry that is p or more comes with its row and its column, counted from 1; a coefficient with its
-// place, the lowest being 1, and a scalar is like the one coefficient of a polynomial.
+// The row and the column of an entry, counted from 1.
+#[derive(Clone, Copy)]
+pub struct Cell {
+    pub row: usize,
+    pub column: usize,
+}
+
+// Why a call is refused, in the table's order. An entry that is p or more comes with its row and its column; a coefficient with its place, the lowest
+// being 1, and a scalar is like the one coefficient of a polynomial.
 #[derive(Clone, Copy)]
 pub enum Reason {
     NoPrime,
@@ -19,18 +25,11 @@ pub enum Reason {
     NoMatrix,
     NoRows,
     NoPolynomial,
-    MatrixEntry(usize, usize),
-    RowEntry(usize, usize),
+    MatrixEntry(Cell),
+    RowEntry(Cell),
     Coefficient(usize),
     NoAllowance,
     NoRoom,
-}
-
-// What a test, or a list of tests, gives.
-#[derive(Clone, Copy)]
-pub enum Checked {
-    Refused(Reason),
-    Passed,
 }
 
 // A reason as the documents number it: `row` and `column` are 0 but for a bad entry. It is part of every answer of the face.
@@ -42,194 +41,183 @@ pub struct Numbers {
     pub column: usize,
 }
 
-// The row and the column of a bad entry, counted from 1.
-#[derive(Clone, Copy)]
-enum BadCell {
-    At(usize, usize),
-    Nowhere,
-}
-
-// A number that comes without a row and a column.
-pub fn alone(number: u8) -> Numbers
-    ensures { result ≡ numbers_of (numbered number) }
-{
-    Numbers {
-        number: number,
-        row: 0,
-        column: 0,
+impl Numbers {
+    // A number that comes without a row and a column.
+    pub fn alone(number: u8) -> Numbers
+        ensures { result ≡ numbers_of (numbered number) }
+    {
+        Numbers {
+            number,
+            row: 0,
+            column: 0,
+        }
     }
 }
 
 // The number of a reason, with the row and the column of a bad entry.
-pub fn as_numbers(reason: Reason) -> Numbers
-    ensures { result ≡ numbers_of (as_refusal reason) }
-{
-    match reason {
-        Reason::NoPrime => alone(1),
-        Reason::NoSize => alone(2),
-        Reason::NoMatrix => alone(3),
-        Reason::NoRows => alone(4),
-        Reason::NoPolynomial => alone(7),
-        Reason::MatrixEntry(row, column) => Numbers {
-            number: 5,
-            row: row,
-            column: column,
-        },
-        Reason::RowEntry(row, column) => Numbers {
-            number: 10,
-            row: row,
-            column: column,
-        },
-        Reason::Coefficient(column) => Numbers {
-            number: 11,
-            row: 0,
-            column: column,
-        },
-        Reason::NoAllowance => alone(9),
-        Reason::NoRoom => alone(6),
+impl From<Reason> for Numbers {
+    ghost from_gives = { λ r n. n ≡ numbers_of (as_refusal r) };
+
+    fn from(reason: Reason) -> Numbers {
+        match reason {
+            Reason::NoPrime => Numbers::alone(1),
+            Reason::NoSize => Numbers::alone(2),
+            Reason::NoMatrix => Numbers::alone(3),
+            Reason::NoRows => Numbers::alone(4),
+            Reason::NoPolynomial => Numbers::alone(7),
+            Reason::MatrixEntry(cell) => Numbers {
+                number: 5,
+                row: cell.row,
+                column: cell.column,
+            },
+            Reason::RowEntry(cell) => Numbers {
+                number: 10,
+                row: cell.row,
+                column: cell.column,
+            },
+            Reason::Coefficient(place) => Numbers {
+                number: 11,
+                row: 0,
+                column: place,
+            },
+            Reason::NoAllowance => Numbers::alone(9),
+            Reason::NoRoom => Numbers::alone(6),
+        }
     }
 }
 
 // Test 1.
-pub fn prime(p: u32) -> Checked
+pub fn prime(p: u32) -> Result<(), Reason>
     ensures { checked_of result ≡ refuse 1 (no_prime p) }
 {
-    if scalar::is_prime(p) {
-        return Checked::Passed;
+    if !scalar::is_prime(p) {
+        return Err(Reason::NoPrime);
     }
-    Checked::Refused(Reason::NoPrime)
+    Ok(())
 }
 
 // Test 2.
-pub fn size(n: usize) -> Checked
+pub fn size(n: usize) -> Result<(), Reason>
     ensures { checked_of result ≡ refuse 2 (no_size n) }
 {
-    if n < 1 {
-        return Checked::Refused(Reason::NoSize);
+    if n < 1 || WIDEST < n {
+        return Err(Reason::NoSize);
     }
-    if WIDEST < n {
-        return Checked::Refused(Reason::NoSize);
-    }
-    Checked::Passed
+    Ok(())
 }
 
 // Test 3, of a size that is sound.
-pub fn matrix(n: usize, m: &[u8]) -> Checked
+pub fn matrix(n: usize, m: &[u8]) -> Result<(), Reason>
     requires { n ≤ widest }
     ensures { checked_of result ≡ refuse 3 (no_matrix n m.now) }
 {
     if m.len() != n * n {
-        return Checked::Refused(Reason::NoMatrix);
+        return Err(Reason::NoMatrix);
     }
-    Checked::Passed
+    Ok(())
 }
 
 // Test 4 of a call that takes one row.
-pub fn vector(n: usize, v: &[u8]) -> Checked
+pub fn vector(n: usize, v: &[u8]) -> Result<(), Reason>
     ensures { checked_of result ≡ refuse 4 (no_vector n v.now) }
 {
     if v.len() != n {
-        return Checked::Refused(Reason::NoRows);
+        return Err(Reason::NoRows);
     }
-    Checked::Passed
+    Ok(())
 }
 
 // Test 4 of a call that takes a list of rows.
-pub fn candidates(n: usize, cs: &[u8]) -> Checked
+pub fn candidates(n: usize, cs: &[u8]) -> Result<(), Reason>
     requires { 0 < n }
     ensures { checked_of result ≡ refuse 4 (no_rows n cs.now) }
 {
-    if cs.len() % n != 0 {
-        return Checked::Refused(Reason::NoRows);
+    if cs.len() % n != 0 || MOST_CANDIDATES < cs.len() / n {
+        return Err(Reason::NoRows);
     }
-    if MOST_CANDIDATES < cs.len() / n {
-        return Checked::Refused(Reason::NoRows);
-    }
-    Checked::Passed
+    Ok(())
 }
 
 // Test 7.
-pub fn polynomial(f: &[u8]) -> Checked
+pub fn polynomial(f: &[u8]) -> Result<(), Reason>
     ensures { checked_of result ≡ refuse 7 (no_polynomial f.now) }
 {
-    if f.len() < 1 {
-        return Checked::Refused(Reason::NoPolynomial);
+    if f.is_empty() || COEFFICIENTS < f.len() {
+        return Err(Reason::NoPolynomial);
     }
-    if COEFFICIENTS < f.len() {
-        return Checked::Refused(Reason::NoPolynomial);
-    }
-    Checked::Passed
+    Ok(())
 }
 
 // The first entry of s that is p or more, s being rows of n.
-fn bad_entry(p: u32, n: usize, s: &[u8]) -> BadCell
+fn bad_entry(p: u32, n: usize, s: &[u8]) -> Option<Cell>
     requires { 0 < n }
-    ensures { cell_of result ≡ bad_entry p n s.now }
+    ensures { option_map cell_of result ≡ bad_entry p n s.now }
 {
-    match rows::first_bad(p, s) {
-        Found::At(i) => BadCell::At(1 + i / n, 1 + i % n),
-        Found::Nothing => BadCell::Nowhere,
-    }
+    let i = rows::first_bad(p, s)?;
+    Some(Cell {
+        row: 1 + i / n,
+        column: 1 + i % n,
+    })
 }
 
 // Test 5.
-pub fn matrix_entry(p: u32, n: usize, m: &[u8]) -> Checked
+pub fn matrix_entry(p: u32, n: usize, m: &[u8]) -> Result<(), Reason>
     requires { 0 < n }
     ensures { checked_of result ≡ refuse_at 5 (bad_entry p n m.now) }
 {
     match bad_entry(p, n, m) {
-        BadCell::At(row, column) => Checked::Refused(Reason::MatrixEntry(row, column)),
-        BadCell::Nowhere => Checked::Passed,
+        Some(cell) => Err(Reason::MatrixEntry(cell)),
+        None => Ok(()),
     }
 }
 
 // Test 10, of one row or of a list of rows.
-pub fn row_entry(p: u32, n: usize, s: &[u8]) -> Checked
+pub fn row_entry(p: u32, n: usize, s: &[u8]) -> Result<(), Reason>
     requires { 0 < n }
     ensures { checked_of result ≡ refuse_at 10 (bad_entry p n s.now) }
 {
     match bad_entry(p, n, s) {
-        BadCell::At(row, column) => Checked::Refused(Reason::RowEntry(row, column)),
-        BadCell::Nowhere => Checked::Passed,
+        Some(cell) => Err(Reason::RowEntry(cell)),
+        None => Ok(()),
     }
 }
 
 // Test 11 of coefficients.
-pub fn coefficient(p: u32, f: &[u8]) -> Checked
+pub fn coefficient(p: u32, f: &[u8]) -> Result<(), Reason>
     ensures { checked_of result ≡ refuse_at 11 (bad_coefficient p f.now) }
 {
     match rows::first_bad(p, f) {
-        Found::At(i) => Checked::Refused(Reason::Coefficient(1 + i)),
-        Found::Nothing => Checked::Passed,
+        Some(i) => Err(Reason::Coefficient(1 + i)),
+        None => Ok(()),
     }
 }
 
 // Test 11 of a scalar.
-pub fn scalar(p: u32, a: u32) -> Checked
+pub fn scalar(p: u32, a: u32) -> Result<(), Reason>
     ensures { checked_of result ≡ refuse_at 11 (bad_scalar p a) }
 {
     if p <= a {
-        return Checked::Refused(Reason::Coefficient(1));
+        return Err(Reason::Coefficient(1));
     }
-    Checked::Passed
+    Ok(())
 }
 
 // Test 9.
-pub fn allowance(a: u32) -> Checked
+pub fn allowance(a: u32) -> Result<(), Reason>
     ensures { checked_of result ≡ refuse 9 (no_allowance a) }
 {
     if MOST_ALLOWANCE < a {
-        return Checked::Refused(Reason::NoAllowance);
+        return Err(Reason::NoAllowance);
     }
-    Checked::Passed
+    Ok(())
 }
 
 // Test 6 of one buffer that is to hold k bytes.
-pub fn room(k: usize, out: &[u8]) -> Checked
+pub fn room(k: usize, out: &[u8]) -> Result<(), Reason>
     ensures { checked_of result ≡ refuse 6 (too_short k out.now) }
 {
     if out.len() < k {
-        return Checked::Refused(Reason::NoRoom);
+        return Err(Reason::NoRoom);
     }
-    Checked::Passed
+    Ok(())
 }

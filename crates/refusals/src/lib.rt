@@ -1,5 +1,5 @@
 // The refusal table: for each call the reason of the first test that applies, in the table's order.
-#![tactic(auto)]
+#![tactic(auto, using(crate::proofs::Laws::tests), unfolding(meaning::specs::Refusal::inverse_refusal, meaning::specs::Refusal::order_refusal, meaning::specs::Refusal::image_refusal, meaning::specs::Refusal::stand_refusal, meaning::specs::Refusal::chain_refusal, meaning::specs::Refusal::period_refusal, meaning::specs::Writing::write_refusal))]
 
 ghost use Rattle.std.specs.Prelude.{◌≡◌, [], ◌∷◌, ◌+◌, ◌*◌, ◌≤◌};
 ghost use Rattle.meaning.specs.Bounds.{widest, most_candidates};
@@ -8,7 +8,7 @@ ghost use Rattle.meaning.specs.Refusal.{inverse_refusal, order_refusal, image_re
 ghost use Rattle.meaning.specs.Writing.{write_refusal};
 ghost use Rattle.reasons.specs.Reasons.{checked_of};
 
-use reasons::Checked;
+use reasons::Reason;
 
 // The bytes of a case that are no row's: four of F, four of A and two of E.
 const FRAME: usize = 10;
@@ -16,113 +16,95 @@ const FRAME: usize = 10;
 // What comes before the entries of a row: the mark and the letter.
 const TAG: usize = 2;
 
-// Of two tests the one that is due: the first is tested earlier.
-fn earlier(a: Checked, b: Checked) -> Checked
-    ensures { checked_of result ≡ first (checked_of a ∷ checked_of b ∷ []) }
-{
-    match a {
-        Checked::Refused(reason) => Checked::Refused(reason),
-        Checked::Passed => b,
-    }
-}
-
 // Tests 1, 2 and 3, which every call on a matrix runs first.
-fn shape(p: u32, n: usize, m: &[u8]) -> Checked
+fn shape(p: u32, n: usize, m: &[u8]) -> Result<(), Reason>
     ensures { checked_of result ≡ first (refuse 1 (no_prime p) ∷ refuse 2 (no_size n) ∷ refuse 3 (no_matrix n m.now) ∷ []) }
 {
-    match earlier(reasons::prime(p), reasons::size(n)) {
-        Checked::Refused(reason) => Checked::Refused(reason),
-        Checked::Passed => reasons::matrix(n, m),
-    }
+    reasons::prime(p)?;
+    reasons::size(n)?;
+    reasons::matrix(n, m)
 }
 
 // All tests but the last of a call that takes a list of rows.
-fn list(p: u32, n: usize, m: &[u8], cs: &[u8]) -> Checked
+fn list(p: u32, n: usize, m: &[u8], cs: &[u8]) -> Result<(), Reason>
     ensures { checked_of result ≡ first (refuse 1 (no_prime p) ∷ refuse 2 (no_size n) ∷ refuse 3 (no_matrix n m.now) ∷ refuse 4 (no_rows n cs.now) ∷ refuse_at 5 (bad_entry p n m.now) ∷ refuse_at 10 (bad_entry p n cs.now) ∷ []) }
 {
-    match shape(p, n, m) {
-        Checked::Refused(reason) => Checked::Refused(reason),
-        Checked::Passed => {
-            let length = reasons::candidates(n, cs);
-            let of_matrix = reasons::matrix_entry(p, n, m);
-            let of_rows = reasons::row_entry(p, n, cs);
-            earlier(length, earlier(of_matrix, of_rows))
-        }
-    }
+    shape(p, n, m)?;
+    reasons::candidates(n, cs)?;
+    reasons::matrix_entry(p, n, m)?;
+    reasons::row_entry(p, n, cs)
 }
 
 // The refusal of the inverse call.
-pub fn of_inverse(p: u32, a: u32) -> Checked
+pub fn of_inverse(p: u32, a: u32) -> Result<(), Reason>
     ensures { checked_of result ≡ inverse_refusal p a }
 {
-    let field = reasons::prime(p);
-    let of_scalar = reasons::scalar(p, a);
-    earlier(field, of_scalar)
+    reasons::prime(p)?;
+    reasons::scalar(p, a)
 }
 
 // The refusal of the order call.
-pub fn of_order(p: u32, n: usize, m: &[u8], v: &[u8], out: &[u8]) -> Checked
+pub fn of_order(p: u32, n: usize, m: &[u8], v: &[u8], out: &[u8]) -> Result<(), Reason>
     ensures { checked_of result ≡ order_refusal p n m.now v.now out.now }
 {
-    match shape(p, n, m) {
-        Checked::Refused(reason) => Checked::Refused(reason),
-        Checked::Passed => {
-            let length = reasons::vector(n, v);
-            let of_matrix = reasons::matrix_entry(p, n, m);
-            let of_row = reasons::row_entry(p, n, v);
-            let short = reasons::room(n + 1, out);
-            earlier(length, earlier(of_matrix, earlier(of_row, short)))
-        }
-    }
+    shape(p, n, m)?;
+    reasons::vector(n, v)?;
+    reasons::matrix_entry(p, n, m)?;
+    reasons::row_entry(p, n, v)?;
+    reasons::room(n + 1, out)
 }
 
 // The refusal of the image call.
-pub fn of_image(p: u32, n: usize, m: &[u8], v: &[u8], f: &[u8], out: &[u8]) -> Checked
+pub fn of_image(p: u32, n: usize, m: &[u8], v: &[u8], f: &[u8], out: &[u8]) -> Result<(), Reason>
     ensures { checked_of result ≡ image_refusal p n m.now v.now f.now out.now }
 {
-    match shape(p, n, m) {
-        Checked::Refused(reason) => Checked::Refused(reason),
-        Checked::Passed => {
-            let length = reasons::vector(n, v);
-            let degree = reasons::polynomial(f);
-            let of_matrix = reasons::matrix_entry(p, n, m);
-            let of_row = reasons::row_entry(p, n, v);
-            let of_polynomial = reasons::coefficient(p, f);
-            let short = reasons::room(n, out);
-            let entry = earlier(of_matrix, earlier(of_row, of_polynomial));
-            earlier(earlier(length, degree), earlier(entry, short))
-        }
-    }
+    shape(p, n, m)?;
+    reasons::vector(n, v)?;
+    reasons::polynomial(f)?;
+    reasons::matrix_entry(p, n, m)?;
+    reasons::row_entry(p, n, v)?;
+    reasons::coefficient(p, f)?;
+    reasons::room(n, out)
 }
 
 // The refusal of the stand call.
-pub fn of_stand(p: u32, n: usize, m: &[u8], cs: &[u8], poly: &[u8], image: &[u8]) -> Checked
+pub fn of_stand(
+    p: u32,
+    n: usize,
+    m: &[u8],
+    cs: &[u8],
+    poly: &[u8],
+    image: &[u8],
+) -> Result<(), Reason>
     ensures { checked_of result ≡ stand_refusal p n m.now cs.now poly.now image.now }
 {
-    match list(p, n, m, cs) {
-        Checked::Refused(reason) => Checked::Refused(reason),
-        Checked::Passed => earlier(reasons::room(n + 1, poly), reasons::room(n, image)),
-    }
+    list(p, n, m, cs)?;
+    reasons::room(n + 1, poly)?;
+    reasons::room(n, image)
 }
 
 // The refusal of the chain call.
-pub fn of_chain(p: u32, n: usize, m: &[u8], cs: &[u8], product: &[u8], stages: &[u8]) -> Checked
+pub fn of_chain(
+    p: u32,
+    n: usize,
+    m: &[u8],
+    cs: &[u8],
+    product: &[u8],
+    stages: &[u8],
+) -> Result<(), Reason>
     ensures { checked_of result ≡ chain_refusal p n m.now cs.now product.now stages.now }
 {
-    match list(p, n, m, cs) {
-        Checked::Refused(reason) => Checked::Refused(reason),
-        Checked::Passed => earlier(reasons::room(n + 1, product), reasons::room(2 * n, stages)),
-    }
+    list(p, n, m, cs)?;
+    reasons::room(n + 1, product)?;
+    reasons::room(2 * n, stages)
 }
 
 // The refusal of the period call.
-pub fn of_period(p: u32, n: usize, m: &[u8]) -> Checked
+pub fn of_period(p: u32, n: usize, m: &[u8]) -> Result<(), Reason>
     ensures { checked_of result ≡ period_refusal p n m.now }
 {
-    match shape(p, n, m) {
-        Checked::Refused(reason) => Checked::Refused(reason),
-        Checked::Passed => reasons::matrix_entry(p, n, m),
-    }
+    shape(p, n, m)?;
+    reasons::matrix_entry(p, n, m)
 }
 
 // The length of a case with n rows, `count` candidates and an A record.
@@ -134,15 +116,17 @@ fn case_length(n: usize, count: usize) -> usize
 }
 
 // The refusal of the writer: the allowance is tested before the buffer, which is to hold the case.
-pub fn of_write(p: u32, n: usize, m: &[u8], cs: &[u8], allowance: u32, out: &[u8]) -> Checked
+pub fn of_write(
+    p: u32,
+    n: usize,
+    m: &[u8],
+    cs: &[u8],
+    allowance: u32,
+    out: &[u8],
+) -> Result<(), Reason>
     ensures { checked_of result ≡ write_refusal p n m.now cs.now allowance out.now }
 {
-    match list(p, n, m, cs) {
-        Checked::Refused(reason) => Checked::Refused(reason),
-        Checked::Passed => {
-            let over = reasons::allowance(allowance);
-            let short = reasons::room(case_length(n, cs.len() / n), out);
-            earlier(over, short)
-        }
-    }
+    list(p, n, m, cs)?;
+    reasons::allowance(allowance)?;
+    reasons::room(case_length(n, cs.len() / n), out)
 }

@@ -19,7 +19,7 @@
 use mathlib.Core.Path.{◌≡◌, refl, sym, ap, subst, ◌∙◌}
 use mathlib.Core.Bool.{Bool, true, false, false≢true}
 use mathlib.Core.List.{List, [], ◌∷◌, ◌++◌, map, append_assoc, append-nil}
-use mathlib.Core.Option.{Option, none, some}
+use Rattle.std.specs.Prelude.{Option, None, Some}
 use Prim.Native.Nat.{ℕ, zero, suc, ◌+◌, ◌<◌, ◌≤◌}
 use native.Mathlib.Nat.{add-zero}
 use native.Mathlib.Decide.{dec_le}
@@ -153,8 +153,8 @@ case_takes c w =
   where
     go : {p n : ℕ} {z : State} {xs : List Record} (a : Option (ℕ × ℕ)) → Halves a → Takes (Body (begun p n)) xs z → Takes (Body (stale (begun p n) 0)) xs z
         → Takes (Body (begun p n)) (allow_record a ++ xs) z
-    go none h t u = t
-    go (some a) h t u = takes (fits_allow refl h.0 h.1) u
+    go None h t u = t
+    go (Some a) h t u = takes (fits_allow refl h.0 h.1) u
 
 head_fits : {q z : State} {x : Record} {xs : List Record} → Takes q (x ∷ xs) z → (y : State) × Fits q x y
 head_fits (takes f t) = (_, f)
@@ -252,8 +252,8 @@ joined {p} {n} P h k a b r =
     }
 
 pub takes_case : {h : Head} {xs : List Record} → Takes Start xs (Over h) → CaseOf xs
-takes_case (takes (fits_field P h k) (takes (fits_allow f i j) t)) = joined P h k (some (_, _)) (i, j) (row_part refl (omega arith) t)
-takes_case (takes (fits_field P h k) (takes (fits_row l e s) t)) = joined P h k none tt (one_row e s (row_part refl (omega arith) t))
+takes_case (takes (fits_field P h k) (takes (fits_allow f i j) t)) = joined P h k (Some (_, _)) (i, j) (row_part refl (omega arith) t)
+takes_case (takes (fits_field P h k) (takes (fits_row l e s) t)) = joined P h k None tt (one_row e s (row_part refl (omega arith) t))
 takes_case (takes (fits_field P h k) (takes (fits_candidate l j e s) t)) = absurd (omega arith)
 takes_case (takes (fits_field P h k) (takes (fits_end l) t)) = absurd (omega arith)
 

@@ -42,7 +42,8 @@ pub enum State {
     Entries { head: Head, bound: u8, left: u8 },
     // E was the last record: nothing may follow.
     Over(Head),
-    // No well-formed case begins so.
+    // No well-formed case begins so. A state and not a `None`: a run over bytes is then a plain fold (`run` in specs/Machine.antt), with no case for one that
+    // has stopped.
     Dead,
 }
 
@@ -58,10 +59,9 @@ fn stale_head(h: Head, count: u32) -> Head
     ensures { result ≡ stale h count }
 {
     Head {
-        p: h.p,
-        n: h.n,
         count,
         fresh: false,
+        ..h
     }
 }
 
@@ -70,18 +70,15 @@ fn stale_head(h: Head, count: u32) -> Head
 fn size(p: u8, n: u8) -> State
     ensures { result ≡ sized p n }
 {
-    if n < 1 {
-        return State::Dead;
+    match n {
+        1..=MOST_ROWS => State::Body(Head {
+            p,
+            n,
+            count: 0,
+            fresh: true,
+        }),
+        _ => State::Dead,
     }
-    if MOST_ROWS < n {
-        return State::Dead;
-    }
-    State::Body(Head {
-        p,
-        n,
-        count: 0,
-        fresh: true,
-    })
 }
 
 // The state behind the letter of an R or a C record.
@@ -101,38 +98,20 @@ fn open_entries(h: Head) -> State
 fn begin(h: Head, b: u8) -> State
     ensures { result ≡ letter h b }
 {
-    let rows = h.n as u32;
+    let rows = u32::from(h.n);
     let count = h.count;
-    if b == b'A' {
-        if h.fresh {
-            return State::Entries {
-                head: stale_head(h, count),
-                bound: HALF,
-                left: 2,
-            };
-        }
-        return State::Dead;
+    match b {
+        b'A' if h.fresh => State::Entries {
+            head: stale_head(h, count),
+            bound: HALF,
+            left: 2,
+        },
+        b'R' if count < rows => open_entries(h),
+        // C and E come behind the last R
+        b'C' if rows <= count && count < rows + MOST_LISTED => open_entries(h),
+        b'E' if rows <= count => State::Over(stale_head(h, count)),
+        _ => State::Dead,
     }
-    if b == b'R' {
-        if count < rows {
-            return open_entries(h);
-        }
-        return State::Dead;
-    }
-    // C and E come behind the last R
-    if rows > count {
-        return State::Dead;
-    }
-    if b == b'C' {
-        if count < rows + MOST_LISTED {
-            return open_entries(h);
-        }
-        return State::Dead;
-    }
-    if b == b'E' {
-        return State::Over(stale_head(h, count));
-    }
-    State::Dead
 }
 
 // The state behind an entry of a record that follows F.
@@ -158,40 +137,16 @@ fn enter(h: Head, bound: u8, left: u8, b: u8) -> State
 pub fn behind(q: State, b: u8) -> State
     ensures { result ≡ after q b }
 {
-    match q {
-        State::Start => {
-            if b == MARK {
-                State::Opening
-            } else {
-                State::Dead
-            }
-        }
-        State::Opening => {
-            if b == b'F' {
-                State::Modulus
-            } else {
-                State::Dead
-            }
-        }
-        State::Modulus => {
-            if is_prime(b as u32) {
-                State::Size(b)
-            } else {
-                State::Dead
-            }
-        }
-        State::Size(p) => size(p, b),
-        State::Body(h) => {
-            if b == MARK {
-                State::Letter(h)
-            } else {
-                State::Dead
-            }
-        }
-        State::Letter(h) => begin(h, b),
-        State::Entries { head, bound, left } => enter(head, bound, left, b),
-        State::Over(_) => State::Dead,
-        State::Dead => State::Dead,
+    match (q, b) {
+        (State::Start, MARK) => State::Opening,
+        (State::Opening, b'F') => State::Modulus,
+        (State::Modulus, p) if is_prime(u32::from(p)) => State::Size(p),
+        (State::Size(p), n) => size(p, n),
+        (State::Body(h), MARK) => State::Letter(h),
+        (State::Letter(h), b) => begin(h, b),
+        (State::Entries { head, bound, left }, b) => enter(head, bound, left, b),
+        (State::Over(_), _) => State::Dead,
+        _ => State::Dead,
     }
 }
 
@@ -201,17 +156,13 @@ pub fn scan(s: &[u8], q: State, from: usize, to: usize) -> Scanned
     ensures { ScanIs s.now from to result.at result.state }
 {
     let mut state = q;
-    let mut at = from;
-    while at < to {
-        if s.len() <= at {
-            return Scanned { state, at };
-        }
+    let end = to.min(s.len());
+    for at in from..end {
         let next = behind(state, s[at]);
         if let State::Dead = next {
             return Scanned { state, at };
         }
         state = next;
-        at += 1;
     }
-    Scanned { state, at }
+    Scanned { state, at: end }
 }

@@ -1,6 +1,9 @@
 -- What the calls answered is what the sheet says.
 --   stages_read      the stages of a record, whatever stands behind it
---   stood_given, chained_given, perioded_given   the lines of each answer that is a result
+--   stood_given, chained_given   the lines of a stand and of a chain
+--   StandDone, ChainDone   what these calls answered, on buffers of zeros
+--   stand_given, chain_given   it is a result, where the values are sound
+--   stand_ok, chain_ok, period_ok   so no call refuses them
 --   CaseAnswers      what the calls answered on a case, and what their buffers hold
 --   case_lines        the lines read off all the answers
 --   CaseLines        they are the sheet's, and there is room for them
@@ -8,7 +11,7 @@
 -- Assumes nothing.
 use mathlib.Core.Path.{◌≡◌, refl, sym, ap, ap₂, ◌∙◌, subst}
 use mathlib.Core.List.{List, [], ◌∷◌, ◌++◌, map, append_assoc}
-use mathlib.Core.Option.{Option, none, some}
+use Rattle.std.specs.Prelude.{Option, Result, Ok, Err, IsOk}
 use Prim.Native.Nat.{ℕ, suc, ◌+◌, ◌-◌, ◌^◌, ◌<◌, ◌≤◌}
 use native.Mathlib.Numerals.{add-one}
 use native.Mathlib.Nat.{le_refl}
@@ -21,7 +24,7 @@ use Rattle.algebra.specs.Poly.{coef, act}
 use Rattle.algebra.specs.Orders.{WithDegree, Stages, end, pass, stage, product}
 use Rattle.meaning.specs.Bytes.{times, e, bytes, write, padded}
 use Rattle.meaning.specs.Bounds.{coefficients, widest, Sound, SoundRows}
-use Rattle.meaning.specs.Stand.{proved, short, Outcome, witness_row}
+use Rattle.meaning.specs.Stand.{Outcome, witness_row}
 use Rattle.meaning.specs.Chain.{stage_bytes, stage_room}
 use Rattle.meaning.specs.Calls.{given, StandResult, StandCall, ChainResult, ChainCall, PeriodCall}
 use Rattle.meaning.specs.Line.{Line, text}
@@ -32,32 +35,28 @@ use Rattle.meaning.proofs.Refusal.{sound_stand, sound_chain, sound_period}
 use Rattle.meaning.proofs.SheetRoom.{sheet_lines_room}
 use Rattle.meaning.proofs.Called.{refused_given}
 use Rattle.meaning.proofs.Written.{written_front}
-use Rattle.calls.specs.Answers.{counted_as, stood_of, chained_of, perioded_of}
+use Rattle.reasons.specs.declared.Reason.{Reason}
+use Rattle.reasons.specs.Reasons.{answer_of}
+use Rattle.calls.specs.Answers.{outcome_of, stood_of}
 use Rattle.calls.specs.declared.Stood.{Stood}
 use Rattle.calls.specs.declared.Stood.TheVariants as stood
-use Rattle.calls.specs.declared.Chained.{Chained}
-use Rattle.calls.specs.declared.Chained.TheVariants as chained
-use Rattle.calls.specs.declared.Perioded.{Perioded}
-use Rattle.calls.specs.declared.Perioded.TheVariants as perioded
-use Rattle.sheet.specs.Lines.{counts_line, unwitnessed_line, stood_lines, StoodFits, StagesIn, stage_lines_in, chained_lines, ChainedFits, perioded_lines}
+use Rattle.sheet.specs.Lines.{counts_line, unwitnessed_line, stood_lines, StoodFits, StagesIn, stage_lines_in, chained_lines, perioded_lines}
 
 -- the stand
-stood_given : {p n a : ℕ} {m cs poly image : List ℕ} {o : Outcome} {old : List ℕ × List ℕ} (r : Stood) → Prime p → stood_of r ≡ given o
+stood_given : {p n a : ℕ} {m cs poly image : List ℕ} {o : Outcome} {old : List ℕ × List ℕ} (r : Stood) → Prime p → outcome_of r ≡ o
     → (R : StandResult p n m cs a old o (poly, image))
     → (stood_lines n r poly image ≡ stand_lines n (times p n m) o.standing o R.poly) × StoodFits n r poly image
-stood_given {n = n} {a} {m} {cs} {o = o} {old = old} (stood.Proved c) P q R =
+stood_given {n = n} {a} {m} {cs} {o = o} {old = old} (stood.Proved c) P z R =
     let f = R.poly in
-    let z : counted_as proved c 0 ≡ o = cc in
     let d = stand_degree P n m cs a o f R.stand in
     let w = written_front (c.degree + 1) (suc n) (coef f) old.0 (omega (arith, ap (λ (o : Outcome). o.degree) z)) R.polynomial in (
       ap (λ l. counts_line "STAND proved" c ∷ record { word = "MINPOLY"; numbers = l } ∷ unwitnessed_line ∷ []) (w.0 ∙ ap (λ k. bytes k (coef f)) (add-one c.degree))
           ∙ ap (λ (o : Outcome). stand_lines n (times _ n m) o.standing o f) z,
       w.1,
     )
-stood_given {n = n} {a} {m} {cs} {o = o} {old = old} (stood.Short c u) P q R =
+stood_given {n = n} {a} {m} {cs} {o = o} {old = old} (stood.Short c u) P z R =
     let f = R.poly in
     let X = times _ n m in
-    let z : counted_as short c u ≡ o = cc in
     let d = stand_degree P n m cs a o f R.stand in
     let w = written_front (c.degree + 1) (suc n) (coef f) old.0 (omega (arith, ap (λ (o : Outcome). o.degree) z)) R.polynomial in
     let v = written_front n n (act X f (e u)) old.1 (le_refl n) (R.witness ∙ ap (λ (o : Outcome). write (bytes n (witness_row X f o.standing o.witness)) old.1) (sym z)) in (
@@ -66,7 +65,6 @@ stood_given {n = n} {a} {m} {cs} {o = o} {old = old} (stood.Short c u) P q R =
           ∙ ap (λ (o : Outcome). stand_lines n X o.standing o f) z,
       (w.1, v.1),
     )
-stood_given {o = o} (stood.Refused k) P q R = absurd (refused_given _ o q)
 
 -- the stages of the record, whatever stands behind it
 stages_read : {p : ℕ} {X : S p → S p} → Prime p → (seen vs : List (S p)) (st : List (WithDegree p)) → Stages X seen vs st → (rest : List ℕ)
@@ -87,56 +85,89 @@ stages_read P seen vs st (stage {s} {st = ss} h l A) rest =
       (omega (arith, ap length c, length-append b r, bytes_length s.deg (coef s.poly)), subst (StagesIn (length ss)) (sym d) i.1),
     )
 
-chained_given : {p n count : ℕ} {m cs prod stages : List ℕ} {old : List ℕ × List ℕ} (r : Chained) → Prime p → chained_of r ≡ given count
-    → (R : ChainResult p n m cs old count (prod, stages))
-    → (chained_lines n r prod stages ≡ map stage_line R.stages ++ (chain_line n R.stages ∷ [])) × ChainedFits n r prod stages
+chained_given : {p n count : ℕ} {m cs prod stages : List ℕ} {old : List ℕ × List ℕ} → Prime p → (R : ChainResult p n m cs old count (prod, stages))
+    → (chained_lines n count prod stages ≡ map stage_line R.stages ++ (chain_line n R.stages ∷ [])) × (n + 1 ≤ length prod) × StagesIn count stages
 unfolding write padded
-chained_given {n = n} {count} {stages = stages} {old = old} (chained.Stages k) P q R =
+chained_given {n = n} {count} {stages = stages} {old = old} P R =
     let st = R.stages in
-    let z : k ≡ length st = cc R.number in
+    let z : count ≡ length st = R.number in
     let w = written_front (n + 1) (suc n) (coef (product st)) old.0 (omega arith) R.product in
     let rest = replicate (stage_room n - length (stage_bytes st)) 0 ++ drop (length (padded (stage_room n) (stage_bytes st))) old.1 in
     let l : stages ≡ stage_bytes st ++ rest = R.record_content ∙ append_assoc (stage_bytes st) _ _ in
     let i = stages_read P [] _ st R.chain rest in (
       ap₂ (λ x y. x ++ (record { word = "CHAIN"; numbers = y } ∷ [])) (ap₂ stage_lines_in z l ∙ i.0) (w.0 ∙ ap (λ k. bytes k (coef (product st))) (add-one n)),
-      (w.1, subst (StagesIn k) (sym l) (subst (λ j. StagesIn j (stage_bytes st ++ rest)) (sym z) i.1)),
+      w.1,
+      subst (StagesIn count) (sym l) (subst (λ j. StagesIn j (stage_bytes st ++ rest)) (sym z) i.1),
     )
-chained_given {count = count} (chained.Refused k) P q R = absurd (refused_given _ count q)
-
-perioded_given : (r : Perioded) (t : Option ℕ) → perioded_of r ≡ given t → perioded_lines r ≡ period_line t ∷ []
-perioded_given (perioded.Least k) t q = let z : some k ≡ t = cc in ap (λ t. period_line t ∷ []) z
-perioded_given perioded.Never t q = let z : none ≡ t = cc in ap (λ t. period_line t ∷ []) z
-perioded_given (perioded.Refused k) t q = absurd (refused_given _ t q)
 
 pub record CaseAnswers : Type 0 where
   pub stood : Stood
   pub poly : List ℕ
   pub image : List ℕ
-  pub chained : Chained
+  pub count : ℕ
   pub product : List ℕ
   pub stages : List ℕ
-  pub perioded : Perioded
+  pub period : Option ℕ
 
 -- all the lines
 abbrev pub case_lines : (p n : ℕ) → CaseAnswers → List Line
-case_lines p n A = field_line p n ∷ (stood_lines n A.stood A.poly A.image ++ (chained_lines n A.chained A.product A.stages ++ perioded_lines A.perioded))
+case_lines p n A = field_line p n ∷ (stood_lines n A.stood A.poly A.image ++ (chained_lines n A.count A.product A.stages ++ perioded_lines A.period))
 
 pub record CaseLines (p n : ℕ) (m cs : List ℕ) (a : ℕ) (A : CaseAnswers) : Type 0 where
   pub lines : SheetLines p n m cs a (case_lines p n A)
   pub stood_fits : StoodFits n A.stood A.poly A.image
-  pub chained-fits : ChainedFits n A.chained A.product A.stages
+  pub size_in_bounds : n + 1 ≤ length A.product
+  pub stages_in : StagesIn A.count A.stages
   pub room : length (text (case_lines p n A)) ≤ sheet_room
 
+-- no call refuses sound values
+answered : {B : Type 0} (r : Result B Reason) (x : B) → answer_of r ≡ given x → IsOk r
+answered (Ok y) x q = refl
+answered (Err k) x q = absurd (refused_given _ x q)
+
+stood_answered : (r : Result Stood Reason) (o : Outcome) → stood_of r ≡ given o → IsOk r
+stood_answered (Ok s) o q = refl
+stood_answered (Err k) o q = absurd (refused_given _ o q)
+
+abbrev pub StandDone : (p n : ℕ) → List ℕ → List ℕ → ℕ → Result Stood Reason → List ℕ → List ℕ → Type 0
+StandDone p n m cs a r poly image = StandCall p n m cs a (replicate coefficients 0, replicate widest 0) (stood_of r) (poly, image)
+
+abbrev pub ChainDone : (p n : ℕ) → List ℕ → List ℕ → Result ℕ Reason → List ℕ → List ℕ → Type 0
+ChainDone p n m cs r prod stages = ChainCall p n m cs (replicate coefficients 0, replicate (stage_room widest) 0) (answer_of r) (prod, stages)
+
+pub stand_given : {p n a : ℕ} {m cs poly image : List ℕ} (r : Result Stood Reason) → Sound p n m → SoundRows p n cs → StandDone p n m cs a r poly image
+    → (o : Outcome) × (stood_of r ≡ given o) × StandResult p n m cs a (replicate coefficients 0, replicate widest 0) o (poly, image)
+stand_given {p} {n} {m = m} {cs} r D B F =
+    F.result (sound_stand p n m cs _ _ D B (simp length-replicate (omega (arith, D.size))) (simp length-replicate D.size))
+
+pub chain_given : {p n : ℕ} {m cs prod stages : List ℕ} (r : Result ℕ Reason) → Sound p n m → SoundRows p n cs → ChainDone p n m cs r prod stages
+    → (k : ℕ) × (answer_of r ≡ given k) × ChainResult p n m cs (replicate coefficients 0, replicate (stage_room widest) 0) k (prod, stages)
+chain_given {p} {n} {m = m} {cs} r D B G =
+    G.result (sound_chain p n m cs _ _ D B (simp length-replicate (omega (arith, D.size))) (simp length-replicate (omega (arith, D.size))))
+
+pub stand_ok : {p n a : ℕ} {m cs poly image : List ℕ} (r : Result Stood Reason) → Sound p n m → SoundRows p n cs → StandDone p n m cs a r poly image → IsOk r
+stand_ok r D B F = let (o, so, S) = stand_given r D B F in stood_answered r o so
+
+pub chain_ok : {p n : ℕ} {m cs prod stages : List ℕ} (r : Result ℕ Reason) → Sound p n m → SoundRows p n cs → ChainDone p n m cs r prod stages → IsOk r
+chain_ok r D B G = let (k, sk, C) = chain_given r D B G in answered r k sk
+
+pub period_ok : {p n : ℕ} {m : List ℕ} (r : Result (Option ℕ) Reason) → Sound p n m → PeriodCall p n m (answer_of r) → IsOk r
+period_ok {p} {n} {m} r D H = let (t, st, T) = H.result (sound_period p n m D) in answered r t st
+
 pub case_lines_lem : {p n a : ℕ} {m cs : List ℕ} {A : CaseAnswers} → Sound p n m → SoundRows p n cs → a < 2 ^ 32
-    → StandCall p n m cs a (replicate coefficients 0, replicate widest 0) (stood_of A.stood) (A.poly, A.image)
-    → ChainCall p n m cs (replicate coefficients 0, replicate (stage_room widest) 0) (chained_of A.chained) (A.product, A.stages)
-    → PeriodCall p n m (perioded_of A.perioded) → CaseLines p n m cs a A
+    → StandDone p n m cs a (Ok A.stood) A.poly A.image → ChainDone p n m cs (Ok A.count) A.product A.stages
+    → PeriodCall p n m (given A.period) → CaseLines p n m cs a A
 case_lines_lem {p} {n} {a} {m} {cs} {A} D B h F G H =
-    let (o, so, S) = F.result (sound_stand p n m cs _ _ D B (simp length-replicate (omega (arith, D.size))) (simp length-replicate D.size)) in
-    let (k, sk, C) = G.result (sound_chain p n m cs _ _ D B (simp length-replicate (omega (arith, D.size))) (simp length-replicate (omega (arith, D.size)))) in
+    let (o, so, S) = stand_given (Ok A.stood) D B F in
+    let (k, sk, K) = chain_given (Ok A.count) D B G in
     let (t, st, T) = H.result (sound_period p n m D) in
-    let x = stood_given A.stood D.prime so S in
-    let y = chained_given A.chained D.prime sk C in
+    let outcome : outcome_of A.stood ≡ o = cc in
+    let number : k ≡ A.count = cc in
+    let period : A.period ≡ t = cc in
+    let x = stood_given A.stood D.prime outcome S in
+    let C : ChainResult p n m cs (replicate coefficients 0, replicate (stage_room widest) 0) A.count (A.product, A.stages)
+    = subst (λ k. ChainResult p n m cs (replicate coefficients 0, replicate (stage_room widest) 0) k (A.product, A.stages)) number K in
+    let y = chained_given D.prime C in
     let L : SheetLines p n m cs a (case_lines p n A) = record {
       outcome = o;
       poly = S.poly;
@@ -145,6 +176,6 @@ case_lines_lem {p} {n} {a} {m} {cs} {A} D B h F G H =
       chain = C.chain;
       period = t;
       returns = T;
-      lines = ap (λ l. field_line p n ∷ l) (ap₂ ◌++◌ x.0 (ap₂ ◌++◌ y.0 (perioded_given A.perioded t st) ∙ append_assoc (map stage_line C.stages) _ _));
+      lines = ap (λ l. field_line p n ∷ l) (ap₂ ◌++◌ x.0 (ap₂ ◌++◌ y.0 (ap (λ t. period_line t ∷ []) period) ∙ append_assoc (map stage_line C.stages) _ _));
     } in
-    record { lines = L; stood_fits = x.1; chained-fits = y.1; room = sheet_lines_room n m cs a _ D B (omega arith) L }
+    record { lines = L; stood_fits = x.1; size_in_bounds = y.1; stages_in = y.2; room = sheet_lines_room n m cs a _ D B (omega arith) L }

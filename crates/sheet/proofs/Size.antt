@@ -7,9 +7,9 @@ use Prim.Native.Nat.{ℕ, ◌≤◌}
 use lib.ListN.{length}
 use Rattle.meaning.specs.Sheet.{SheetCall}
 use Rattle.meaning.proofs.SheetRoom.{given_size}
-use Rattle.sheet.specs.Answers.{sheeted_of}
-use Rattle.sheet.specs.declared.Sheeted.{Sheeted}
-use Rattle.sheet.specs.declared.Sheeted.TheVariants as sheeted
+use Rattle.std.specs.Prelude.{Result, Ok}
+use Rattle.reasons.specs.declared.Reason.{Reason}
+use Rattle.reasons.specs.Reasons.{answer_of}
 
-pub sheet_size : {s old new : List ℕ} {r : Sheeted} {k : ℕ} → SheetCall s old (sheeted_of r) new → r ≡ sheeted.Length k → k ≤ length new
-sheet_size {s} {old} {new} h e = given_size (subst (λ x. SheetCall s old (sheeted_of x) new) e h)
+pub sheet_size : {s old new : List ℕ} {r : Result ℕ Reason} {k : ℕ} → SheetCall s old (answer_of r) new → r ≡ Ok k → k ≤ length new
+sheet_size {s} {old} {new} h e = given_size (subst (λ x. SheetCall s old (answer_of x) new) e h)

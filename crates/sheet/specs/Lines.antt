@@ -8,26 +8,18 @@
 --   StagesIn k l                 k stages stand in the stage record l
 --   stage_lines_in k l             a line for each of them, with the leading 1 that the record leaves out
 --   product_line n product        CHAIN with the n + 1 coefficients
---   chained_lines n r product l   the lines of the chain r with these buffers
---   ChainedFits n r product l    the buffers hold what is read off them
+--   chained_lines n k product l   the lines of a chain of k stages with these buffers
 --   perioded_lines r              the line of the period r
 --   CaseText p n m cs a t        the text t is the sheet of a case with these values
 --   FileText s t                 the text t is the sheet of the file s
 -- Assumes nothing.
-use Rattle.std.specs.Prelude.{List, [], ◌∷◌, ◌++◌, ℕ, zero, suc, ◌+◌, ◌≤◌, length, take, drop}
-use Rattle.std.proofs.Math.Option.{none, some}
+use Rattle.std.specs.Prelude.{◌≡◌, List, [], ◌∷◌, ◌++◌, ℕ, zero, suc, ◌+◌, ◌≤◌, length, take, drop, Option}
 use Prim.Native.String.{String}
 use Rattle.meaning.specs.Line.{Line, text}
 use Rattle.meaning.specs.Sheet.{period_line, SheetLines, IsSheet, sheet_room}
-use Rattle.text.specs.declared.Text.{Text}
-use Rattle.text.specs.Text.{IsText}
 use Rattle.calls.specs.declared.Counts.{Counts}
 use Rattle.calls.specs.declared.Stood.{Stood}
 use Rattle.calls.specs.declared.Stood.TheVariants as stood
-use Rattle.calls.specs.declared.Chained.{Chained}
-use Rattle.calls.specs.declared.Chained.TheVariants as chained
-use Rattle.calls.specs.declared.Perioded.{Perioded}
-use Rattle.calls.specs.declared.Perioded.TheVariants as perioded
 
 abbrev pub counts_line : String → Counts → Line
 counts_line w c = record { word = w; numbers = c.taken ∷ c.spent ∷ [] }
@@ -50,12 +42,10 @@ short_lines n c w poly image = counts_line "STAND short" c ∷ factor_line "DIVI
 abbrev pub stood_lines : ℕ → Stood → List ℕ → List ℕ → List Line
 stood_lines n (stood.Proved c) poly image = proved_lines c poly
 stood_lines n (stood.Short c w) poly image = short_lines n c w poly image
-stood_lines n (stood.Refused k) poly image = []
 
 abbrev pub StoodFits : ℕ → Stood → List ℕ → List ℕ → Type 0
 StoodFits n (stood.Proved c) poly image = c.degree + 1 ≤ length poly
 StoodFits n (stood.Short c w) poly image = (c.degree + 1 ≤ length poly) × (n ≤ length image)
-StoodFits n (stood.Refused k) poly image = Unit {0}
 
 unfoldable pub StagesIn : ℕ → List ℕ → Type 0
 StagesIn zero l = Unit {0}
@@ -70,27 +60,18 @@ stage_lines_in (suc k) (d ∷ l) = record { word = "STAGE"; numbers = take d l +
 abbrev pub product_line : ℕ → List ℕ → Line
 product_line n product = record { word = "CHAIN"; numbers = take (n + 1) product }
 
-abbrev pub chained_lines : ℕ → Chained → List ℕ → List ℕ → List Line
-chained_lines n (chained.Stages k) product l = stage_lines_in k l ++ (product_line n product ∷ [])
-chained_lines n (chained.Refused k) product l = []
+abbrev pub chained_lines : ℕ → ℕ → List ℕ → List ℕ → List Line
+chained_lines n k product l = stage_lines_in k l ++ (product_line n product ∷ [])
 
-abbrev pub ChainedFits : ℕ → Chained → List ℕ → List ℕ → Type 0
-ChainedFits n (chained.Stages k) product l = (n + 1 ≤ length product) × StagesIn k l
-ChainedFits n (chained.Refused k) product l = Unit {0}
+abbrev pub perioded_lines : Option ℕ → List Line
+perioded_lines r = period_line r ∷ []
 
-abbrev pub perioded_lines : Perioded → List Line
-perioded_lines (perioded.Least t) = period_line (some t) ∷ []
-perioded_lines perioded.Never = period_line none ∷ []
-perioded_lines (perioded.Refused k) = []
-
-pub record CaseText (p n : ℕ) (m cs : List ℕ) (a : ℕ) (t : Text) : Type 0 where
+pub record CaseText (p n : ℕ) (m cs : List ℕ) (a : ℕ) (t : List ℕ) : Type 0 where
   pub lines : List Line
   pub sheet : SheetLines p n m cs a lines
-  pub is : IsText t (text lines)
-  pub room : length (text lines) ≤ sheet_room
+  pub is : t ≡ text lines
+  pub room : length t ≤ sheet_room
 
-pub record FileText (s : List ℕ) (t : Text) : Type 0 where
-  pub bytes : List ℕ
-  pub sheet : IsSheet s bytes
-  pub is : IsText t bytes
-  pub room : length bytes ≤ sheet_room
+pub record FileText (s t : List ℕ) : Type 0 where
+  pub sheet : IsSheet s t
+  pub room : length t ≤ sheet_room

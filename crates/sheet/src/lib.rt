@@ -1,17 +1,16 @@
 // The sheet of a case: the lines that 01 lists for the program `stand`, laid down from what the calls answer.
 #![tactic(auto)]
 
-ghost use Rattle.std.specs.Prelude.{[], ◌∷◌, ◌++◌, ◌+◌, ◌≤◌, length};
+ghost use Rattle.std.specs.Prelude.{◌≡◌, [], ◌∷◌, ◌++◌, ◌+◌, ◌≤◌, length};
 ghost use Rattle.meaning.specs.Ascii.{ascii};
 ghost use Rattle.meaning.specs.Bounds.{Sound, SoundRows};
 ghost use Rattle.meaning.specs.Line.{text as bytes_of};
 ghost use Rattle.meaning.specs.Sheet.{SheetCall};
-ghost use Rattle.text.specs.Text.{HasRoom, Appended, line_of};
-ghost use Rattle.sheet.specs.Lines.{proved_lines, short_lines, stood_lines, StoodFits, StagesIn, stage_lines_in, chained_lines, ChainedFits, perioded_lines, CaseText, FileText};
-ghost use Rattle.sheet.specs.Answers.{sheeted_of};
+ghost use Rattle.reasons.specs.Reasons.{answer_of};
+ghost use Rattle.text.specs.Text.{HasRoom, line_of};
+ghost use Rattle.sheet.specs.Lines.{proved_lines, short_lines, stood_lines, StoodFits, StagesIn, stage_lines_in, chained_lines, perioded_lines, CaseText, FileText};
 
-use calls::{Chained, Counts, Perioded, Stood};
-use casefile::Reading;
+use calls::{Counts, Stood};
 use meaning::{COEFFICIENTS, STAGE_RECORD, WIDEST};
 use reasons::Reason;
 use text::Text;
@@ -19,117 +18,97 @@ use text::Text;
 // A buffer of so many bytes has room for every sheet.
 pub const ROOM: usize = text::ROOM;
 
-// What the call answers: how many bytes the sheet is, or the refusal.
-#[derive(Clone, Copy)]
-pub enum Sheeted {
-    Length(usize),
-    Refused(Reason),
-}
-
-// STAGE with the coefficients of a stage and its leading 1.
-fn stage_line(t: Text, s: &[u8]) -> Text
-    requires { HasRoom t (line_of (ascii "STAGE") (s.now ++ (1 ∷ []))) }
-    ensures { Appended t result (line_of (ascii "STAGE") (s.now ++ (1 ∷ []))) }
+// STAGE with the coefficients of a stage and its leading 1. Not `Text::line`, which takes its numbers from one slice; so with WITNESS below.
+fn stage_line(t: &mut Text, s: &[u8])
+    requires { HasRoom t.old (line_of (ascii "STAGE") (s.now ++ (1 ∷ []))) }
+    ensures { t.new ≡ t.old ++ line_of (ascii "STAGE") (s.now ++ (1 ∷ [])) }
 {
-    let named = text::word(t, b"STAGE");
-    let told = text::numbers(named, s);
-    let monic = text::spaced_number(told, 1);
-    text::byte(monic, b'\n')
+    t.word(b"STAGE");
+    t.numbers(s);
+    t.spaced_number(1);
+    t.byte(b'\n');
 }
 
 // A line for each stage of the record: a degree byte, then that many coefficients.
-fn stage_lines(t: Text, count: usize, stages: &[u8]) -> Text
+fn stage_lines(t: &mut Text, count: usize, stages: &[u8])
     requires stages_in { StagesIn count stages.now }
-    requires has_room { HasRoom t (bytes_of (stage_lines_in count stages.now)) }
-    ensures { Appended t result (bytes_of (stage_lines_in count stages.now)) }
+    requires has_room { HasRoom t.old (bytes_of (stage_lines_in count stages.now)) }
+    ensures { t.new ≡ t.old ++ bytes_of (stage_lines_in count stages.now) }
 {
-    let mut out = t;
-    let mut left = count;
     let mut at = 0;
-    while 0 < left {
+    for _ in 0..count {
         let from = at + 1;
-        let to = from + stages[at] as usize;
-        let next = stage_line(out, &stages[from..to]);
-        out = next;
-        at = to;
-        left -= 1;
+        at = from + usize::from(stages[at]);
+        stage_line(t, &stages[from..at]);
     }
-    out
 }
 
 // WITNESS with the index, counted from 1, and the entries of the image.
-fn witness_line(t: Text, w: usize, image: &[u8]) -> Text
-    requires { HasRoom t (line_of (ascii "WITNESS") (w ∷ image.now)) }
-    ensures { Appended t result (line_of (ascii "WITNESS") (w ∷ image.now)) }
+fn witness_line(t: &mut Text, w: usize, image: &[u8])
+    requires { HasRoom t.old (line_of (ascii "WITNESS") (w ∷ image.now)) }
+    ensures { t.new ≡ t.old ++ line_of (ascii "WITNESS") (w ∷ image.now) }
 {
-    let named = text::word(t, b"WITNESS");
-    let told = text::spaced_number(named, w);
-    let shown = text::numbers(told, image);
-    text::byte(shown, b'\n')
+    t.word(b"WITNESS");
+    t.spaced_number(w);
+    t.numbers(image);
+    t.byte(b'\n');
 }
 
 // The lines of a proved stand: the coefficients are those of the minimal polynomial, up to its leading 1.
-fn proved_lines(t: Text, c: Counts, poly: &[u8]) -> Text
+#[tactic(auto, unfolding(meaning::specs::Line::text, meaning::specs::Line::line_bytes, meaning::specs::Line::spaced))]
+fn proved_lines(t: &mut Text, c: Counts, poly: &[u8])
     requires degree_in_bounds { c.degree + 1 ≤ length poly.now }
-    requires has_room { HasRoom t (bytes_of (proved_lines c poly.now)) }
-    ensures { Appended t result (bytes_of (proved_lines c poly.now)) }
+    requires has_room { HasRoom t.old (bytes_of (proved_lines c poly.now)) }
+    ensures { t.new ≡ t.old ++ bytes_of (proved_lines c poly.now) }
 {
-    let size = c.degree + 1;
-    let counted = text::pair_line(t, b"STAND proved", c.taken, c.spent as usize);
-    let listed = text::list_line(counted, b"MINPOLY", &poly[..size]);
-    text::word(listed, b"WITNESS none\n")
+    t.line(b"STAND proved", &[c.taken, c.spent as usize]);
+    t.line(b"MINPOLY", &poly[..c.degree + 1]);
+    t.word(b"WITNESS none\n");
 }
 
 // The lines of a short one: its polynomial is a divisor, and the witness shows that it is another.
-fn short_lines(t: Text, n: usize, c: Counts, w: usize, poly: &[u8], image: &[u8]) -> Text
+#[tactic(auto, unfolding(meaning::specs::Line::text, meaning::specs::Line::line_bytes))]
+fn short_lines(t: &mut Text, n: usize, c: Counts, w: usize, poly: &[u8], image: &[u8])
     requires degree_in_bounds { (c.degree + 1 ≤ length poly.now) × (n ≤ length image.now) }
-    requires has_room { HasRoom t (bytes_of (short_lines n c w poly.now image.now)) }
-    ensures { Appended t result (bytes_of (short_lines n c w poly.now image.now)) }
+    requires has_room { HasRoom t.old (bytes_of (short_lines n c w poly.now image.now)) }
+    ensures { t.new ≡ t.old ++ bytes_of (short_lines n c w poly.now image.now) }
 {
-    let places = c.degree + 1;
-    let counted = text::pair_line(t, b"STAND short", c.taken, c.spent as usize);
-    let listed = text::list_line(counted, b"DIVISOR", &poly[..places]);
-    witness_line(listed, w, &image[..n])
+    t.line(b"STAND short", &[c.taken, c.spent as usize]);
+    t.line(b"DIVISOR", &poly[..c.degree + 1]);
+    witness_line(t, w, &image[..n]);
 }
 
-// The lines of the stand; none where it is refused.
-fn stand_lines(t: Text, n: usize, answer: Stood, poly: &[u8], image: &[u8]) -> Text
-    requires stood_fits { StoodFits n answer poly.now image.now }
-    requires has_room { HasRoom t (bytes_of (stood_lines n answer poly.now image.now)) }
-    ensures { Appended t result (bytes_of (stood_lines n answer poly.now image.now)) }
+// The lines of the stand.
+fn stand_lines(t: &mut Text, n: usize, stood: Stood, poly: &[u8], image: &[u8])
+    requires stood_fits { StoodFits n stood poly.now image.now }
+    requires has_room { HasRoom t.old (bytes_of (stood_lines n stood poly.now image.now)) }
+    ensures { t.new ≡ t.old ++ bytes_of (stood_lines n stood poly.now image.now) }
 {
-    match answer {
+    match stood {
         Stood::Proved(c) => proved_lines(t, c, poly),
         Stood::Short(c, w) => short_lines(t, n, c, w, poly, image),
-        Stood::Refused(_) => t,
     }
 }
 
-// The lines of the chain; none where it is refused.
-fn chain_lines(t: Text, n: usize, answer: Chained, product: &[u8], stages: &[u8]) -> Text
-    requires chained_fits { ChainedFits n answer product.now stages.now }
-    requires has_room { HasRoom t (bytes_of (chained_lines n answer product.now stages.now)) }
-    ensures { Appended t result (bytes_of (chained_lines n answer product.now stages.now)) }
+// The lines of a chain of so many stages.
+fn chain_lines(t: &mut Text, n: usize, count: usize, product: &[u8], stages: &[u8])
+    requires size_in_bounds { n + 1 ≤ length product.now }
+    requires stages_in { StagesIn count stages.now }
+    requires has_room { HasRoom t.old (bytes_of (chained_lines n count product.now stages.now)) }
+    ensures { t.new ≡ t.old ++ bytes_of (chained_lines n count product.now stages.now) }
 {
-    match answer {
-        Chained::Stages(count) => {
-            let size = n + 1;
-            let staged = stage_lines(t, count, stages);
-            text::list_line(staged, b"CHAIN", &product[..size])
-        }
-        Chained::Refused(_) => t,
-    }
+    stage_lines(t, count, stages);
+    t.line(b"CHAIN", &product[..n + 1]);
 }
 
-// The line of the period; none where it is refused.
-fn period_line(t: Text, answer: Perioded) -> Text
-    requires { HasRoom t (bytes_of (perioded_lines answer)) }
-    ensures { Appended t result (bytes_of (perioded_lines answer)) }
+// The line of the period.
+fn period_line(t: &mut Text, period: Option<u32>)
+    requires { HasRoom t.old (bytes_of (perioded_lines period)) }
+    ensures { t.new ≡ t.old ++ bytes_of (perioded_lines period) }
 {
-    match answer {
-        Perioded::Least(k) => text::number_line(t, b"PERIOD", k as usize),
-        Perioded::Never => text::word(t, b"PERIOD none\n"),
-        Perioded::Refused(_) => t,
+    match period {
+        Some(k) => t.line(b"PERIOD", &[k as usize]),
+        None => t.word(b"PERIOD none\n"),
     }
 }
 
@@ -143,14 +122,15 @@ fn case_text(p: u32, n: usize, m: &[u8], cs: &[u8], allowance: u32) -> Text
     let mut image = [0u8; WIDEST];
     let mut product = [0u8; COEFFICIENTS];
     let mut stages = [0u8; STAGE_RECORD];
-    let stood = calls::stand(p, n, m, cs, allowance, &mut poly, &mut image);
-    let chained = calls::chain(p, n, m, cs, &mut product, &mut stages);
-    let perioded = calls::period(p, n, m);
-    let blank = text::empty();
-    let headed = text::pair_line(blank, b"FIELD", p as usize, n);
-    let told = stand_lines(headed, n, stood, &poly, &image);
-    let linked = chain_lines(told, n, chained, &product, &stages);
-    period_line(linked, perioded)
+    let stood = calls::stand(p, n, m, cs, allowance, &mut poly, &mut image).unwrap();
+    let count = calls::chain(p, n, m, cs, &mut product, &mut stages).unwrap();
+    let period = calls::period(p, n, m).unwrap();
+    let mut t = Text::new();
+    t.line(b"FIELD", &[p as usize, n]);
+    stand_lines(&mut t, n, stood, &poly, &image);
+    chain_lines(&mut t, n, count, &product, &stages);
+    period_line(&mut t, period);
+    t
 }
 
 // The sheet of a file: that of its case, or the REFUSED line with the place.
@@ -158,38 +138,28 @@ fn file_text(file: &[u8]) -> Text
     ensures { FileText file.now result }
 {
     let contents = casefile::read(file);
-    let answer = contents.answer;
-    let matrix = contents.matrix;
-    let candidates = contents.candidates;
-    match answer {
-        Reading::Case {
-            p,
-            n,
-            allowance,
-            count,
-        } => {
-            let entries = n * n;
-            let bytes = count * n;
-            case_text(p, n, &matrix[..entries], &candidates[..bytes], allowance)
+    match contents.answer {
+        Ok(case) => {
+            let matrix = &contents.matrix[..case.n * case.n];
+            let candidates = &contents.candidates[..case.count * case.n];
+            case_text(case.p, case.n, matrix, candidates, case.allowance)
         }
-        Reading::Refused(place) => {
-            let blank = text::empty();
-            text::number_line(blank, b"REFUSED", place)
+        Err(place) => {
+            let mut t = Text::new();
+            t.line(b"REFUSED", &[place]);
+            t
         }
     }
 }
 
 // The sheet of a case file: the lines that the program `stand` prints, at the front of `out`, and how many bytes they are. Refused where `out`
 // has not the room for every sheet.
-pub fn sheet(file: &[u8], out: &mut [u8]) -> Sheeted
-    ensures { SheetCall file.now out.old (sheeted_of result) out.new }
+pub fn sheet(file: &[u8], out: &mut [u8]) -> Result<usize, Reason>
+    ensures { SheetCall file.now out.old (answer_of result) out.new }
 {
-    if out.len() < ROOM {
-        return Sheeted::Refused(Reason::NoRoom);
-    }
+    reasons::room(ROOM, out)?;
     let t = file_text(file);
-    let bytes = t.bytes;
-    let len = t.len;
-    rows::copy(&bytes[..len], &mut out[..len]);
-    Sheeted::Length(len)
+    let bytes = t.as_bytes();
+    out[..bytes.len()].copy_from_slice(bytes);
+    Ok(bytes.len())
 }

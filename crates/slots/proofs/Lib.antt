@@ -1,4 +1,3 @@
-pub mod Laid
 pub mod Kept
 pub mod SameSlots
 pub mod Tick

@@ -1,22 +1,39 @@
-// How kept rows lie in memory: said in `specs`, with its laws in `proofs`. Here are the numbers, for the code that reads slots (`echelon`,
-// `coordinates`) and writes them (`store`).
+// The slots that kept rows lie in, one behind the other: what `echelon`, `coordinates` read and `store` writes.
 #![tactic(auto)]
+
+ghost use Rattle.std.specs.Prelude.{◌≡◌, ℕ, ◌-◌, ◌≤◌, length, get_or, take, drop};
 
 use meaning::WIDEST;
 
-// Where in its slot the inverse lies, the mark of a stage's end, the kept row, what was taken for it, and the relation. The leading place comes
-// first.
-pub const SCALE: usize = 1;
+// A kept row with its leading place, the inverse of the entry that was there, whether a stage ends with it, what was taken of the rows kept before
+// it, and, where a stage ends, the relation: the coordinates of the stage's next power.
+#[derive(Clone, Copy)]
+pub struct Slot {
+    pub lead: u8,
+    pub scale: u8,
+    pub ends: bool,
+    pub row: [u8; WIDEST],
+    pub taken: [u8; WIDEST],
+    pub relation: [u8; WIDEST],
+}
 
-pub const END: usize = 2;
+// A slot that no row was put in.
+pub const BLANK: Slot = Slot {
+    lead: 0,
+    scale: 0,
+    ends: false,
+    row: [0; WIDEST],
+    taken: [0; WIDEST],
+    relation: [0; WIDEST],
+};
 
-pub const ROW: usize = 3;
-
-pub const TAKEN: usize = ROW + WIDEST;
-
-pub const RELATION: usize = TAKEN + WIDEST;
-
-// The bytes of a slot, and those of the slots that are enough for any machine.
-pub const SLOT: usize = RELATION + WIDEST;
-
-pub const KEPT_ROOM: usize = WIDEST * SLOT;
+// The bytes of a row from one place up to another. As a parameter they are known to be bytes, which of a slot's field is not known.
+#[inline]
+pub fn part(row: &[u8], from: usize, to: usize) -> &[u8]
+    requires order { from ≤ to }
+    requires within { to ≤ length row.now }
+    ensures part { result.now ≡ take (to - from) (drop from row.now) }
+    ensures most { (i : ℕ) → get_or result.now i 0 ≤ 255 }
+{
+    &row[from..to]
+}

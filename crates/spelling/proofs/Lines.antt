@@ -2,46 +2,32 @@
 --   blank_line, word_line   a line without cells, and one with a word and more
 --   blank_said, line-said   what they say
 --   line_end        where a line with cells ends
---   word_within     its word lies within the line
 --   Reading x p i us y   what is left to say, the lines us from number i on behind the spot p, comes to y
---   text_start, lines_turn, lines_last   before the first line, one line more, behind the last
+--   text_start, lines_next, lines_last   before the first line, one line more, behind the last
 --   end_line        a line ends in itself, or where the line before did
 -- Assumes nothing.
-use mathlib.Core.Path.{◌≡◌, refl, sym, ap, ap₂, ◌∙◌}
+use mathlib.Core.Path.{◌≡◌, refl, sym, ap, ap₂, subst, ◌∙◌}
 use mathlib.Core.List.{List, [], ◌∷◌}
 use Prim.Native.Nat.{ℕ, ◌+◌, ◌<◌, ◌≤◌}
-use native.Mathlib.Nat.{sub-zero}
 use native.Mathlib.Numerals.{add-one}
 use native.Mathlib.Omega.{arith}
-use lib.ListN.{length, take}
-use lib.Seq.{length-take-le}
-use Rattle.meaning.specs.Design.{Spot, said, spot_at, separator_in, cut_at, without_return, cells_of, cells_in, letter_of, cells_said, line_said, end_of}
+use lib.ListN.{length, get_or, drop, drop_of_length-le}
+use Rattle.meaning.specs.Design.{Spot, said, spot_at, separator_in, without_mark, cut_at, cells_of, cells_in, letter_of, cells_said, line_said, end_of}
 use Rattle.meaning.specs.Design.{lines_said, text_said}
-use Rattle.cells.specs.Cells.{BehindMark, Piece, UsedPart}
-use Rattle.spelling.specs.Trace.{Tracing, step, steps, pieces_from}
+use Rattle.cells.specs.Cells.{used_part}
+use Rattle.spelling.specs.Trace.{Tracing, step, steps}
 use Rattle.spelling.proofs.Outcome.{steps_append}
-use Rattle.spelling.proofs.Pieces.{pieces_within, pieces_turn}
+use Rattle.spelling.proofs.Pieces.{pieces_turn}
 
-used_cells : {s r : ℕ} {l : List ℕ} → UsedPart s l r → cells_in s l ≡ cells_of s (take r l)
-unfolding cells_in
-used_cells {s} {r} {l} U = ap (λ k. cells_of s (take k (without_return l))) (sym U.size) ∙ ap (cells_of s) (sym U.part)
+pub blank_line : (s : ℕ) (l : List ℕ) {u : List ℕ} → u ≡ used_part s l → length u ≡ 0 → cells_in s l ≡ []
+unfolding cells_in cells_of
+blank_line s l {u = []} e h = ap (cells_of s) (sym e)
+blank_line s l {u = x ∷ u} e h = absurd (omega arith)
 
-pub blank_line : {s r : ℕ} {l : List ℕ} → UsedPart s l r → r ≡ 0 → cells_in s l ≡ []
-unfolding cells_of
-blank_line {s} {r} {l} U e = used_cells U ∙ ap (λ k. cells_of s (take k l)) e
-
-some_cells : (s : ℕ) (u : List ℕ) → 0 < length u → cells_of s u ≡ cut_at s u
-unfolding cells_of
-some_cells s [] h = absurd (omega arith)
-some_cells s (b ∷ u) h = refl
-
-pub word_line : {s r f : ℕ} {l : List ℕ} → UsedPart s l r → 0 < r → Piece s (take r l) 0 f
-    → cells_in s l ≡ take f (take r l) ∷ pieces_from s (take r l) (f + 1)
-word_line {s} {r} {f} {l} U h P =
-    let u : List ℕ = take r l in
-    let long = length-take-le r l U.within in
-    used_cells U ∙ some_cells s u (omega (arith, long)) ∙ sym (pieces_within s u 0 (omega arith)) ∙ pieces_turn (omega arith) P
-    ∙ ap (λ k. take k u ∷ pieces_from s u (f + 1)) (sub-zero f)
+pub word_line : (s : ℕ) (l : List ℕ) {u w : List ℕ} {ws : List (List ℕ)} → u ≡ used_part s l → ¬ (length u ≡ 0) → cut_at s (used_part s l) ≡ w ∷ ws → cells_in s l ≡ w ∷ ws
+unfolding cells_in cells_of
+word_line s l {u = []} e h c = absurd (h refl)
+word_line s l {u = x ∷ u} e h c = ap (cells_of s) (sym e) ∙ ap (cut_at s) e ∙ c
 
 pub blank_said : (x : Tracing) (before : Spot) (i : ℕ) {ws : List (List ℕ)} → ws ≡ [] → (x ≡ steps x (line_said before i ws)) × (before ≡ end_of before i ws)
 unfolding line_said steps
@@ -56,27 +42,22 @@ line-said {m} {n} {z} {b} x before i {cells} {w} {ws} e l f g h =
     ∙ ap (λ c. steps (step (step x (said before 255)) (said (spot_at i 1) c)) (cells_said c i 2 ws)) l
     ∙ ap (λ v. steps x (line_said before i v)) (sym e)
 
-pub line_end : {j k : ℕ} (before : Spot) (i : ℕ) {cells : List (List ℕ)} {w : List ℕ} {ws : List (List ℕ)} → cells ≡ w ∷ ws → (j ≡ i) × (k ≡ 2 + length ws)
-    → spot_at j k ≡ end_of before i cells
-line_end before i {w = w} {ws = ws} e (f, g) =
+pub line_end : {p : Spot} (before : Spot) (i : ℕ) {cells : List (List ℕ)} {w : List ℕ} {ws : List (List ℕ)} → cells ≡ w ∷ ws
+    → p ≡ spot_at i (2 + length ws) → p ≡ end_of before i cells
+line_end before i {w = w} {ws = ws} e f =
     let n : 2 + length ws ≡ length (w ∷ ws) + 1 = omega arith in
-    ap₂ spot_at f (g ∙ n) ∙ ap (end_of before i) (sym e)
-
-pub word_within : {s r f : ℕ} {l : List ℕ} → UsedPart s l r → Piece s (take r l) 0 f → f ≤ length l
-word_within {s} {r} {f} {l} U P = omega (arith, P.within, U.within, length-take-le r l U.within)
+    f ∙ ap (spot_at i) n ∙ ap (end_of before i) (sym e)
 
 -- lines, one after another
 pub record Reading (x : Tracing) (s : ℕ) (p : Spot) (i : ℕ) (us : List (List ℕ)) (y : Tracing) : Type 0 where
   pub comes : steps x (lines_said s p i us) ≡ y
 
-pub text_start : {s r : ℕ} (x : Tracing) (t : List ℕ) → s ≡ separator_in t → BehindMark t r
-    → Reading x s (spot_at 0 1) 1 (pieces_from 10 t r) (steps x (text_said t))
+pub text_start : {s : ℕ} {body : List ℕ} (x : Tracing) (t : List ℕ) → s ≡ separator_in t → body ≡ without_mark t
+    → Reading x s (spot_at 0 1) 1 (cut_at 10 body) (steps x (text_said t))
 unfolding text_said
-text_start {s} {r} x t e M = record {
-  comes = ap₂ (λ b ls. steps x (lines_said b (spot_at 0 1) 1 ls)) e (pieces_within 10 t r M.within ∙ ap (cut_at 10) M.rest);
-}
+text_start x t e f = record { comes = ap₂ (λ b u. steps x (lines_said b (spot_at 0 1) 1 (cut_at 10 u))) e f }
 
-pub lines_turn : {x y z : Tracing} {p q : Spot} {s i : ℕ} {us ls : List (List ℕ)} {l : List ℕ} → Reading x s p i us y → us ≡ l ∷ ls
+lines_turn : {x y z : Tracing} {p q : Spot} {s i : ℕ} {us ls : List (List ℕ)} {l : List ℕ} → Reading x s p i us y → us ≡ l ∷ ls
     → z ≡ steps x (line_said p i (cells_in s l)) → q ≡ end_of p i (cells_in s l) → Reading z s q (i + 1) ls y
 unfolding lines_said
 lines_turn {x} {y} {z} {p} {q} {s} {i} {us} {ls} {l} R e f g = record {
@@ -84,16 +65,23 @@ lines_turn {x} {y} {z} {p} {q} {s} {i} {us} {ls} {l} R e f g = record {
       ∙ ap (λ u. steps x (lines_said s p i u)) (sym e) ∙ R.comes;
 }
 
-pub lines_last : {x y m n : Tracing} {p : Spot} {s i : ℕ} {us : List (List ℕ)} → Reading x s p i us y → us ≡ [] → m ≡ step x (said p 255)
+pub lines_next : {x y z : Tracing} {p q : Spot} {s i e : ℕ} {l : List ℕ} (us : List (List ℕ)) (k : ℕ) → Reading x s p i (drop k us) y
+    → (k < length us) × (l ≡ get_or us k l) → e ≡ k + 1 → z ≡ steps x (line_said p i (cells_in s l)) → q ≡ end_of p i (cells_in s l)
+    → Reading z s q (i + 1) (drop e us) y
+lines_next {y = y} {z = z} {q = q} {s = s} {i = i} us k R h e f g =
+    subst (λ n. Reading z s q (i + 1) (drop n us) y) (sym e) (lines_turn R (pieces_turn us k h) f g)
+
+pub lines_last : {x y m n : Tracing} {p : Spot} {s i : ℕ} (us : List (List ℕ)) (k : ℕ) → Reading x s p i (drop k us) y → k ≡ length us → m ≡ step x (said p 255)
     → n ≡ step m (said (spot_at (p.line + 1) 1) 69) → n ≡ y
 unfolding lines_said steps
-lines_last {x} {y} {m} {n} {p} {s} {i} R e f g =
+lines_last {x} {y} {m} {n} {p} {s} {i} us k R h f g =
+    let e : drop k us ≡ [] = drop_of_length-le us (omega arith) in
     g ∙ ap (λ t. step t (said (spot_at (p.line + 1) 1) 69)) f ∙ ap (λ k. step (step x (said p 255)) (said (spot_at k 1) 69)) (add-one p.line)
     ∙ ap (λ u. steps x (lines_said s p i u)) (sym e) ∙ R.comes
 
-ended_in : {j k : ℕ} (before : Spot) (i : ℕ) (ws : List (List ℕ)) → spot_at j k ≡ end_of before i ws → before.line ≤ i → j ≤ i
+ended_in : {p : Spot} (before : Spot) (i : ℕ) (ws : List (List ℕ)) → p ≡ end_of before i ws → before.line ≤ i → p.line ≤ i
 ended_in before i [] e h = omega (arith, ap (λ (p : Spot). p.line) e)
 ended_in before i (w ∷ ws) e h = omega (arith, ap (λ (p : Spot). p.line) e)
 
-pub end_line : {j k : ℕ} (before : Spot) (i s : ℕ) (l : List ℕ) → spot_at j k ≡ end_of before i (cells_in s l) → before.line ≤ i → j ≤ i
+pub end_line : {p : Spot} (before : Spot) (i s : ℕ) (l : List ℕ) → p ≡ end_of before i (cells_in s l) → before.line ≤ i → p.line ≤ i
 end_line before i s l = ended_in before i (cells_in s l)

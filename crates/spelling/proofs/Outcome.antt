@@ -7,9 +7,10 @@
 --   steps_append    bytes one after another
 -- Assumes nothing.
 use mathlib.Core.Path.{◌≡◌, refl, sym, ap, ap₂, subst, ◌∙◌}
-use mathlib.Core.Bool.{true, false}
+use mathlib.Core.Bool.{true}
 use mathlib.Core.Logic.{◌⊎◌, inl, inr, ⊎_elim}
 use mathlib.Core.List.{List, [], ◌∷◌, ◌++◌, map, map-append, append_assoc, append-nil}
+use Rattle.std.specs.Prelude.{None, Some, is_some}
 use Prim.Native.Nat.{ℕ, suc, ◌+◌, ◌<◌, ◌≤◌}
 use native.Mathlib.Numerals.{add-one}
 use native.Mathlib.Omega.{arith}
@@ -26,26 +27,28 @@ use Rattle.scan.specs.Machine.{after, run, Viable, Scans}
 use Rattle.scan.proofs.Run.{Alive, run_append, viable_after}
 use Rattle.scan.proofs.Place.{viable_begins}
 use Rattle.scan.proofs.Decide.{dead_or}
-use Rattle.spelling.specs.Trace.{Tracing, step, steps, started}
+use Rattle.spelling.specs.declared.Spot.{Spot as CodeSpot}
+use Rattle.spelling.specs.Trace.{spot_of, Tracing, step, steps, started}
 use Rattle.spelling.proofs.Steps.{step_stays, step-lost, step-held}
 
 abbrev pub bytes_of : List Said → List ℕ
 bytes_of xs = map (λ (x : Said). x.byte) xs
 
 pub record Held (bs o : List ℕ) (x : Tracing) : Type 0 where
-  pub calm : x.0.wrong ≡ false
+  pub calm : x.0.wrong ≡ None
   pub comes : run Start bs ≡ x.0.state
   pub viable : Viable x.0.state
   pub counted : x.0.count ≡ length bs
   pub buffer : x.1 ≡ write bs o
 
 pub record Lost (xs : List Said) (x : Tracing) : Type 0 where
-  pub told : x.0.wrong ≡ true
+  pub spot : CodeSpot
+  pub told : x.0.wrong ≡ Some spot
   pub offset : ℕ
   pub within : offset < length xs
   pub scans : Scans (bytes_of xs) offset x.0.state
   pub dead : after x.0.state (get_or (bytes_of xs) offset 0) ≡ Dead
-  pub there : (get_or xs offset (said (spot_at 0 0) no_byte)).spot ≡ spot_at x.0.line x.0.cell
+  pub there : (get_or xs offset (said (spot_at 0 0) no_byte)).spot ≡ spot_of spot
 
 abbrev pub Comes : List ℕ → List Said → Tracing → Type 0
 Comes o xs x = Held (bytes_of xs) o x ⊎ Lost xs x
@@ -66,7 +69,7 @@ write_more bs o b h =
     set_split (bs ++ rest) (length bs) b (omega (arith, k))
     ∙ ap₂ (λ f t. f ++ b ∷ t) (take-append_seam bs rest) back ∙ sym (append_assoc bs (b ∷ []) _)
 
-steps_stay : (x : Tracing) (xs : List Said) → x.0.wrong ≡ true → steps x xs ≡ x
+steps_stay : (x : Tracing) (xs : List Said) → is_some x.0.wrong ≡ true → steps x xs ≡ x
 unfolding steps
 steps_stay x [] e = refl
 steps_stay x (y ∷ ys) e = ap (λ z. steps z ys) (sym (step_stays x.0 x.1 y e)) ∙ steps_stay x ys e
@@ -83,7 +86,8 @@ held-lost {o} {x} xs ys y H d =
     let e : bytes_of (xs ++ y ∷ ys) ≡ bytes_of xs ++ y.byte ∷ bytes_of ys = map-append (λ (z : Said). z.byte) xs (y ∷ ys) in
     let k = length-map xs (λ (z : Said). z.byte) in
     let long = length-append xs (y ∷ ys) in
-    subst (Lost (xs ++ y ∷ ys)) (step-lost t x.1 y.spot y.byte H.calm refl d) (record {
+    subst (Lost (xs ++ y ∷ ys)) (step-lost t x.1 y.spot y.byte (ap is_some H.calm) refl d) (record {
+      spot = record { line = y.spot.line; cell = y.spot.cell };
       told = refl;
       offset = length xs;
       within = omega (arith, long);
@@ -110,8 +114,8 @@ held_turn {o} {x} xs y l H a =
     let long = length-append (bytes_of xs) (y.byte ∷ []) in
     let room : length (bytes_of xs) < length o = omega (arith, short, long) in
     let size = ap length H.buffer ∙ write_size (bytes_of xs) o (omega (arith, room)) in
-    subst (Held (bytes_of (xs ++ y ∷ [])) o) (step-held t x.1 y.spot y.byte H.calm refl a (omega (arith, H.counted, room, size))) (record {
-      calm = refl;
+    subst (Held (bytes_of (xs ++ y ∷ [])) o) (step-held t x.1 y.spot y.byte (ap is_some H.calm) refl a (omega (arith, H.counted, room, size))) (record {
+      calm = H.calm;
       comes = ap (run Start) e ∙ comes;
       viable = viable;
       counted = omega (arith, H.counted, ap length e, long);
@@ -123,6 +127,6 @@ unfolding steps run
 steps_come {o} x xs [] l H = inl (subst (λ zs. Held (bytes_of zs) o x) (sym (append-nil xs)) H)
 steps_come {o} x xs (y ∷ ys) l H =
     ⊎_elim
-    (λ d. inr (subst (Lost (xs ++ y ∷ ys)) (sym (steps_stay (step x y) ys (held-lost xs ys y H d).told)) (held-lost xs ys y H d)))
+    (λ d. inr (subst (Lost (xs ++ y ∷ ys)) (sym (steps_stay (step x y) ys (ap is_some (held-lost xs ys y H d).told))) (held-lost xs ys y H d)))
     (λ a. subst (λ zs. Comes o zs (steps (step x y) ys)) (append_assoc xs (y ∷ []) ys) (steps_come (step x y) (xs ++ y ∷ []) ys l (held_turn xs y l H a)))
     (dead_or (after x.0.state y.byte))

@@ -6,6 +6,7 @@
 use mathlib.Core.Path.{◌≡◌, refl, sym, ap, ◌∙◌}
 use mathlib.Core.Bool.{true, false}
 use mathlib.Core.List.{List}
+use Rattle.std.specs.Prelude.{is_some}
 use Prim.Native.Nat.{ℕ, ◌+◌, ◌<◌, ◌≤◌}
 use lib.ListN.{length, set}
 use borrow.Author.Tests.{lt-ltb, le-ltb}
@@ -32,21 +33,21 @@ alive_is (Entries h bound left) a = refl
 alive_is (Over h) a = refl
 alive_is Dead a = absurd (a refl)
 
-pub step_stays : (t : Trace) (o : List ℕ) (x : Said) → t.wrong ≡ true → (t, o) ≡ step (t, o) x
+pub step_stays : (t : Trace) (o : List ℕ) (x : Said) → is_some t.wrong ≡ true → (t, o) ≡ step (t, o) x
 unfolding step
 step_stays t o x e = rw e
 
-pub step-lost : (t : Trace) (o : List ℕ) (p : Spot) (b : ℕ) {q : State} → t.wrong ≡ false → q ≡ after t.state b → q ≡ Dead
+pub step-lost : (t : Trace) (o : List ℕ) (p : Spot) (b : ℕ) {q : State} → is_some t.wrong ≡ false → q ≡ after t.state b → q ≡ Dead
     → (lost t p, o) ≡ step (t, o) (said p b)
 unfolding step
 step-lost t o p b e f d = rw (e, dead_is (sym f ∙ d))
 
-pub step-held : (t : Trace) (o : List ℕ) (p : Spot) (b : ℕ) {q : State} → t.wrong ≡ false → q ≡ after t.state b → (q ≡ Dead → ⊥)
+pub step-held : (t : Trace) (o : List ℕ) (p : Spot) (b : ℕ) {q : State} → is_some t.wrong ≡ false → q ≡ after t.state b → (q ≡ Dead → ⊥)
     → t.count < length o → (kept t q (t.count + 1), set o t.count b) ≡ step (t, o) (said p b)
 unfolding step
 step-held t o p b e f a h = rw (e, alive_is (after t.state b) (λ d. a (f ∙ d)), lt-ltb t.count (length o) h, f)
 
-pub step_full : (t : Trace) (o : List ℕ) (p : Spot) (b : ℕ) {q : State} → t.wrong ≡ false → q ≡ after t.state b → (q ≡ Dead → ⊥)
+pub step_full : (t : Trace) (o : List ℕ) (p : Spot) (b : ℕ) {q : State} → is_some t.wrong ≡ false → q ≡ after t.state b → (q ≡ Dead → ⊥)
     → length o ≤ t.count → (kept t q t.count, o) ≡ step (t, o) (said p b)
 unfolding step
 step_full t o p b e f a h = rw (e, alive_is (after t.state b) (λ d. a (f ∙ d)), le-ltb t.count (length o) h, f)

@@ -2,148 +2,104 @@
 // first that does not is kept.
 #![tactic(auto)]
 
-ghost use Rattle.std.specs.Prelude.{◌≡◌, ◌∷◌, [], map, ◌+◌, length};
-ghost use Rattle.std.proofs.Math.Option.{some};
-ghost use Rattle.meaning.specs.Design.{said, spot_at, halves_in, byte_in, cell_bytes, cells_in, cells_said, line_said, end_of, text_said};
-ghost use Rattle.spelling.specs.Trace.{step, steps, started, pieces_from};
+ghost use Rattle.std.specs.Prelude.{◌≡◌, map};
+ghost use Rattle.meaning.specs.Design.{said, cell_bytes, cells_in, line_said, end_of, text_said};
+ghost use Rattle.spelling.specs.Trace.{spot_of, step, steps, started};
 
-use cells::NO_BYTE;
-use meaning::{MARK, MOST_ALLOWANCE, RADIX};
+use meaning::{MARK, RADIX};
 use scan::State;
 
-// How far it has come. `state` is what the scan keeps behind the bytes that begin a case, and `count` how many of them are in the buffer; behind a byte
-// that begins none, `wrong` says so, and line and cell are its spot.
+// What is no word and no number is taken for this: no byte of a case, wherever it stands.
+const NO_BYTE: u8 = 254;
+
+// A line and a cell of a text, counted from 1.
 #[derive(Clone, Copy)]
-pub struct Trace {
-    pub state: State,
-    pub count: usize,
-    pub wrong: bool,
+pub struct Spot {
     pub line: usize,
     pub cell: usize,
 }
 
-// One byte more, said in the cell of that line.
-fn say(t: Trace, b: u8, line: usize, cell: usize, out: &mut [u8]) -> Trace
-    ensures { (result, out.new) ≡ step (t, out.old) (said (spot_at line cell) b) }
+// How far it has come. `state` is what the scan keeps behind the bytes that begin a case, and `count` how many of them are in the buffer; `wrong` is the
+// spot of the first byte that begins none.
+#[derive(Clone, Copy)]
+pub struct Trace {
+    pub state: State,
+    pub count: usize,
+    pub wrong: Option<Spot>,
+}
+
+// One byte more, said at that spot.
+fn say(t: Trace, b: u8, at: Spot, out: &mut [u8]) -> Trace
+    ensures { (result, out.new) ≡ step (t, out.old) (said (spot_of at) b) }
 {
-    if t.wrong {
+    if t.wrong.is_some() {
         return t;
     }
-    let state = t.state;
-    let next = scan::behind(state, b);
+    let next = scan::behind(t.state, b);
     if let State::Dead = next {
         return Trace {
-            state,
-            count: t.count,
-            wrong: true,
-            line,
-            cell,
+            wrong: Some(at),
+            ..t
         };
     }
-    let at = t.count;
-    if at < out.len() {
-        out[at] = b;
+    if t.count < out.len() {
+        out[t.count] = b;
         return Trace {
             state: next,
-            count: at + 1,
-            wrong: false,
-            line: t.line,
-            cell: t.cell,
+            count: t.count + 1,
+            ..t
         };
     }
-    Trace {
-        state: next,
-        count: at,
-        wrong: false,
-        line: t.line,
-        cell: t.cell,
-    }
+    Trace { state: next, ..t }
 }
 
-// The halves of an allowance.
-fn say_halves(t: Trace, v: u32, line: usize, cell: usize, out: &mut [u8]) -> Trace
-    ensures { (result, out.new) ≡ steps (t, out.old) (map (said (spot_at line cell)) (halves_in (some v))) }
+// What a cell behind the word says: in a line with an allowance its halves, else an entry.
+fn say_cell(t: Trace, letter: u8, w: &[u8], at: Spot, out: &mut [u8]) -> Trace
+    ensures { (result, out.new) ≡ steps (t, out.old) (map (said (spot_of at)) (cell_bytes letter w.now)) }
 {
-    if MOST_ALLOWANCE < v {
-        return say(t, NO_BYTE, line, cell, out);
+    match cells::number(w) {
+        Some(v) if letter == b'A' => {
+            let high = say(t, (v / RADIX) as u8, at, out);
+            say(high, (v % RADIX) as u8, at, out)
+        }
+        Some(v) if v < u32::from(NO_BYTE) => say(t, v as u8, at, out),
+        _ => say(t, NO_BYTE, at, out),
     }
-    let high = say(t, (v / RADIX) as u8, line, cell, out);
-    say(high, (v % RADIX) as u8, line, cell, out)
-}
-
-// An entry.
-#[tactic(auto, using(crate::proofs::Saying::entry_said, crate::proofs::Saying::entry_none))]
-fn say_entry(t: Trace, v: u32, line: usize, cell: usize, out: &mut [u8]) -> Trace
-    ensures { (result, out.new) ≡ steps (t, out.old) (said (spot_at line cell) (byte_in (some v)) ∷ []) }
-{
-    if v < NO_BYTE as u32 {
-        return say(t, v as u8, line, cell, out);
-    }
-    say(t, NO_BYTE, line, cell, out)
-}
-
-// What a cell behind the word says.
-#[tactic(auto, using(crate::proofs::Saying::cell_halves, crate::proofs::Saying::cell_entry))]
-fn say_cell(t: Trace, letter: u8, w: &[u8], line: usize, cell: usize, out: &mut [u8]) -> Trace
-    ensures { (result, out.new) ≡ steps (t, out.old) (map (said (spot_at line cell)) (cell_bytes letter w.now)) }
-{
-    let v = cells::number(w);
-    if letter == b'A' {
-        return say_halves(t, v, line, cell, out);
-    }
-    say_entry(t, v, line, cell, out)
 }
 
 // How far it has come with a line: behind its last cell, or where the line before ended.
 #[derive(Clone, Copy)]
 pub struct Lined {
     pub trace: Trace,
-    pub line: usize,
-    pub cell: usize,
-}
-
-// What the cells of a line say from the place `from` on; the first of them is the second cell of the line.
-fn say_cells(
-    t: Trace,
-    letter: u8,
-    l: &[u8],
-    from: usize,
-    s: u8,
-    line: usize,
-    out: &mut [u8],
-) -> Lined
-    ensures out_after { (result.trace, out.new) ≡ steps (t, out.old) (cells_said letter line 2 (pieces_from s l.now from)) }
-    ensures line_value { (result.line ≡ line) × (result.cell ≡ 2 + length (pieces_from s l.now from)) }
-{
-    let mut trace = t;
-    let mut at = from;
-    let mut cell = 2;
-    while at <= l.len() {
-        let end = cells::find(l, at, s);
-        let next = say_cell(trace, letter, &l[at..end], line, cell, out);
-        trace = next;
-        at = end + 1;
-        cell += 1;
-    }
-    Lined { trace, line, cell }
+    pub spot: Spot,
 }
 
 // What a line says; `before` is where the line before ended.
 fn say_line(before: Lined, l: &[u8], s: u8, line: usize, out: &mut [u8]) -> Lined
-    ensures out_after { (result.trace, out.new) ≡ steps (before.trace, out.old) (line_said (spot_at before.line before.cell) line (cells_in s l.now)) }
-    ensures cell_value { spot_at result.line result.cell ≡ end_of (spot_at before.line before.cell) line (cells_in s l.now) }
+    ensures out_after { (result.trace, out.new) ≡ steps (before.trace, out.old) (line_said (spot_of before.spot) line (cells_in s l.now)) }
+    ensures spot_after { spot_of result.spot ≡ end_of (spot_of before.spot) line (cells_in s l.now) }
 {
-    let end = cells::used_part(l, s);
-    if end == 0 {
+    let used = cells::used_part(l, s);
+    if used.is_empty() {
         return before;
     }
-    let used = &l[..end];
-    let first = cells::find(used, 0, s);
-    let letter = cells::letter(&used[..first]);
-    let t = before.trace;
-    let marked = say(t, MARK, before.line, before.cell, out);
-    let named = say(marked, letter, line, 1, out);
-    say_cells(named, letter, used, first + 1, s, line, out)
+    let mut pieces = used.split(|b| *b == s);
+    let Some(word) = pieces.next() else {
+        return before;
+    };
+    let letter = cells::letter(word).unwrap_or(NO_BYTE);
+    let marked = say(before.trace, MARK, before.spot, out);
+    let mut trace = say(marked, letter, Spot { line, cell: 1 }, out);
+    // counted as a reader of the text does; `enumerate` would count from 0, and the last number is needed behind the loop
+    let mut cell = 2;
+    for w in pieces {
+        trace = say_cell(trace, letter, w, Spot { line, cell }, out);
+        cell += 1;
+    }
+    Lined {
+        trace,
+        spot: Spot { line, cell },
+    }
 }
 
 // What a text says: its lines, and its end.
@@ -151,27 +107,25 @@ pub fn spell(text: &[u8], out: &mut [u8]) -> Trace
     ensures { (result, out.new) ≡ steps (started, out.old) (text_said text.now) }
 {
     let s = cells::separator(text);
-    let mut at = cells::front(text);
-    let mut line = 1;
     let mut here = Lined {
         trace: Trace {
             state: State::Start,
             count: 0,
-            wrong: false,
-            line: 0,
-            cell: 0,
+            wrong: None,
         },
-        line: 0,
-        cell: 1,
+        spot: Spot { line: 0, cell: 1 },
     };
-    while at <= text.len() {
-        let end = cells::find(text, at, b'\n');
-        let next = say_line(here, &text[at..end], s, line, out);
-        here = next;
-        at = end + 1;
+    // counted from 1, where `enumerate` counts from 0
+    let mut line = 1;
+    let body = cells::without_mark(text);
+    for l in body.split(|b| *b == b'\n') {
+        here = say_line(here, l, s, line, out);
         line += 1;
     }
-    let t = here.trace;
-    let marked = say(t, MARK, here.line, here.cell, out);
-    say(marked, b'E', here.line + 1, 1, out)
+    let marked = say(here.trace, MARK, here.spot, out);
+    let last = Spot {
+        line: here.spot.line + 1,
+        cell: 1,
+    };
+    say(marked, b'E', last, out)
 }

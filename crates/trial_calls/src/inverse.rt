@@ -1,16 +1,12 @@
 // The call of the inverse: p | scalar.
 use crate::{modulus, refuse};
-use calls::Inverted;
 use std::io;
+use trial_lines::Line;
 
-pub fn answer(rt: &impl Print, line: &[u8]) -> io::Result<()> {
-    let inverted = calls::inverse(
-        modulus(line),
-        trial_lines::number(trial_lines::group(line, 1)),
-    );
-    match inverted {
-        Inverted::Inverse(b) => trial_lines::print_byte(rt, b),
-        Inverted::None => trial_lines::print(rt, b" none"),
-        Inverted::Refused(reason) => refuse(rt, reason),
+pub fn answer(rt: &impl Print, line: Line) -> io::Result<()> {
+    match calls::inverse(modulus(line), line.number(1)) {
+        Ok(Some(b)) => print!(rt; " {b}"),
+        Ok(None) => print!(rt; " none"),
+        Err(reason) => refuse(rt, reason),
     }
 }

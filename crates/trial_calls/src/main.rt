@@ -10,93 +10,57 @@ mod periods;
 mod stand;
 mod write;
 
-use reasons::Reason;
+use reasons::{Numbers, Reason};
 use std::io;
+use trial_lines::{Line, Unanswered};
+
+// Room for what is lent as a matrix, a list and a polynomial: somewhat more than the longest that a call takes.
+const MATRIX_LENT: usize = 4608;
+
+const LIST_LENT: usize = 8448;
+
+const ROW_LENT: usize = 400;
 
 // The number that follows the line's word.
-fn modulus(line: &[u8]) -> u32 {
-    trial_lines::number(trial_lines::group(line, 0))
+fn modulus(line: Line) -> u32 {
+    line.number(0)
 }
 
 // The number of the second group.
-fn size(line: &[u8]) -> usize {
-    trial_lines::number(trial_lines::group(line, 1)) as usize
+fn size(line: Line) -> usize {
+    line.number(1) as usize
 }
 
 // A refusal's number, and where it has one the row and the column of the bad entry.
 fn refuse(rt: &impl Print, reason: Reason) -> io::Result<()> {
-    let numbers = reasons::as_numbers(reason);
-    trial_lines::print(rt, b" refused")?;
-    trial_lines::print_byte(rt, numbers.number)?;
+    let numbers = Numbers::from(reason);
+    print!(rt; " refused {}", numbers.number)?;
     if numbers.column != 0 {
-        trial_lines::print(rt, b" row")?;
-        trial_lines::print_number(rt, numbers.row as u64)?;
-        trial_lines::print(rt, b" column")?;
-        trial_lines::print_number(rt, numbers.column as u64)?;
+        print!(rt; " row {} column {}", numbers.row, numbers.column)?;
     }
     Ok(())
 }
 
 // A lent buffer, whole.
 fn show(rt: &impl Print, buffer: &[u8]) -> io::Result<()> {
-    trial_lines::print(rt, b" |")?;
+    print!(rt; " |")?;
     trial_lines::print_list(rt, buffer)
 }
 
-// A group of the line has more numbers than there is room for.
-fn skip(rt: &impl Print) -> io::Result<()> {
-    trial_lines::print(rt, b" too long")
-}
-
-fn answer(rt: &impl Print, line: &[u8]) -> io::Result<()> {
-    trial_lines::print(rt, trial_lines::word(line))?;
-    if trial_lines::named(line, b"inverse") {
-        return inverse::answer(rt, line);
-    }
-    if trial_lines::named(line, b"order") {
-        return order::answer(rt, line);
-    }
-    if trial_lines::named(line, b"image") {
-        return image::answer(rt, line);
-    }
-    if trial_lines::named(line, b"stand") {
-        return stand::answer(rt, line);
-    }
-    if trial_lines::named(line, b"chain") {
-        return chain::answer(rt, line);
-    }
-    if trial_lines::named(line, b"period") {
-        return periods::answer(rt, line);
-    }
-    if trial_lines::named(line, b"write") {
-        return write::answer(rt, line);
-    }
-    trial_lines::print(rt, b" unknown")
-}
-
-fn run(rt: &impl Print, line: &[u8]) -> io::Result<()> {
-    if line.len() == 0 {
-        return Ok(());
-    }
-    if line[0] == b'#' {
-        return trial_lines::print(rt, line);
-    }
-    answer(rt, line)
-}
-
-fn run_all(rt: &impl Print, text: &[u8]) -> io::Result<()> {
-    let mut at = 0;
-    while at < text.len() {
-        let end = trial_lines::find(text, at, b'\n');
-        run(rt, &text[at..end])?;
-        trial_lines::end_line(rt)?;
-        at = end + 1;
+fn answer(rt: &impl Print, line: Line) -> Result<(), Unanswered> {
+    match line.word() {
+        b"inverse" => inverse::answer(rt, line)?,
+        b"order" => order::answer(rt, line)?,
+        b"image" => image::answer(rt, line)?,
+        b"stand" => stand::answer(rt, line)?,
+        b"chain" => chain::answer(rt, line)?,
+        b"period" => periods::answer(rt, line)?,
+        b"write" => write::answer(rt, line)?,
+        _ => print!(rt; " unknown")?,
     }
     Ok(())
 }
 
 fn main(rt: HostRuntime) -> io::Result<()> {
-    let mut text = [0u8; 131072];
-    let n = input::read_all(&mut rt.reader(), &mut text).whole()?;
-    run_all(&rt, &text[..n])
+    trial_lines::answer_lines(&rt, &mut [0u8; 131072], |line| answer(&rt, line))
 }

@@ -1,40 +1,18 @@
 // The call of the order: p | n | matrix | row | buffer.
-use crate::{modulus, refuse, show, size, skip};
-use calls::Ordered;
-use std::io;
+use crate::{MATRIX_LENT, ROW_LENT, modulus, refuse, show, size};
+use trial_lines::{Line, Unanswered};
 
-pub fn answer(rt: &impl Print, line: &[u8]) -> io::Result<()> {
-    let mut m = [0u8; 4608];
-    let matrix = trial_lines::fill(trial_lines::group(line, 2), &mut m);
-    let k = matrix.count;
-    let mut v = [0u8; 400];
-    let row = trial_lines::fill(trial_lines::group(line, 3), &mut v);
-    let d = row.count;
-    let mut out = [0u8; 400];
-    let buffer = trial_lines::fill(trial_lines::group(line, 4), &mut out);
-    let e = buffer.count;
-    if matrix.whole && row.whole && buffer.whole {
-        call(
-            rt,
-            modulus(line),
-            size(line),
-            &m[..k],
-            &v[..d],
-            &mut out[..e],
-        )
-    } else {
-        skip(rt)
+pub fn answer(rt: &impl Print, line: Line) -> Result<(), Unanswered> {
+    let mut m = [0u8; MATRIX_LENT];
+    let mut v = [0u8; ROW_LENT];
+    let mut out = [0u8; ROW_LENT];
+    let m = line.fill(2, &mut m)?;
+    let v = line.fill(3, &mut v)?;
+    let out = line.fill(4, &mut out)?;
+    match calls::order(modulus(line), size(line), m, v, out) {
+        Ok(degree) => print!(rt; " degree {degree}")?,
+        Err(reason) => refuse(rt, reason)?,
     }
-}
-
-fn call(rt: &impl Print, p: u32, n: usize, m: &[u8], v: &[u8], out: &mut [u8]) -> io::Result<()> {
-    let ordered = calls::order(p, n, m, v, out);
-    match ordered {
-        Ordered::Degree(degree) => {
-            trial_lines::print(rt, b" degree")?;
-            trial_lines::print_number(rt, degree as u64)?;
-        }
-        Ordered::Refused(reason) => refuse(rt, reason)?,
-    }
-    show(rt, out)
+    show(rt, out)?;
+    Ok(())
 }

@@ -1,68 +1,36 @@
 // The call of the stand: p | n | matrix | candidates | allowance | polynomial buffer | witness buffer.
-use crate::{modulus, refuse, show, size, skip};
+use crate::{LIST_LENT, MATRIX_LENT, ROW_LENT, modulus, refuse, show, size};
 use calls::{Counts, Stood};
 use std::io;
+use trial_lines::{Line, Unanswered};
 
-pub fn answer(rt: &impl Print, line: &[u8]) -> io::Result<()> {
-    let mut m = [0u8; 4608];
-    let matrix = trial_lines::fill(trial_lines::group(line, 2), &mut m);
-    let k = matrix.count;
-    let mut cs = [0u8; 8448];
-    let candidates = trial_lines::fill(trial_lines::group(line, 3), &mut cs);
-    let d = candidates.count;
-    if matrix.whole && candidates.whole {
-        answer_with(rt, line, &m[..k], &cs[..d])
-    } else {
-        skip(rt)
-    }
-}
-
-fn answer_with(rt: &impl Print, line: &[u8], m: &[u8], cs: &[u8]) -> io::Result<()> {
-    let mut poly = [0u8; 400];
-    let polynomial = trial_lines::fill(trial_lines::group(line, 5), &mut poly);
-    let d = polynomial.count;
-    let mut image = [0u8; 400];
-    let witness = trial_lines::fill(trial_lines::group(line, 6), &mut image);
-    let e = witness.count;
-    if polynomial.whole && witness.whole {
-        call(rt, line, m, cs, &mut poly[..d], &mut image[..e])
-    } else {
-        skip(rt)
-    }
-}
-
-fn call(
-    rt: &impl Print,
-    line: &[u8],
-    m: &[u8],
-    cs: &[u8],
-    poly: &mut [u8],
-    image: &mut [u8],
-) -> io::Result<()> {
-    let allowance = trial_lines::number(trial_lines::group(line, 4));
-    let stood = calls::stand(modulus(line), size(line), m, cs, allowance, poly, image);
-    match stood {
-        Stood::Proved(counts) => {
-            trial_lines::print(rt, b" proved")?;
+pub fn answer(rt: &impl Print, line: Line) -> Result<(), Unanswered> {
+    let mut m = [0u8; MATRIX_LENT];
+    let mut cs = [0u8; LIST_LENT];
+    let mut poly = [0u8; ROW_LENT];
+    let mut image = [0u8; ROW_LENT];
+    let m = line.fill(2, &mut m)?;
+    let cs = line.fill(3, &mut cs)?;
+    let poly = line.fill(5, &mut poly)?;
+    let image = line.fill(6, &mut image)?;
+    let allowance = line.number(4);
+    match calls::stand(modulus(line), size(line), m, cs, allowance, poly, image) {
+        Ok(Stood::Proved(counts)) => {
+            print!(rt; " proved")?;
             show_counts(rt, counts)?;
         }
-        Stood::Short(counts, witness) => {
-            trial_lines::print(rt, b" short")?;
+        Ok(Stood::Short(counts, witness)) => {
+            print!(rt; " short")?;
             show_counts(rt, counts)?;
-            trial_lines::print(rt, b" witness")?;
-            trial_lines::print_number(rt, witness as u64)?;
+            print!(rt; " witness {witness}")?;
         }
-        Stood::Refused(reason) => refuse(rt, reason)?,
+        Err(reason) => refuse(rt, reason)?,
     }
     show(rt, poly)?;
-    show(rt, image)
+    show(rt, image)?;
+    Ok(())
 }
 
 fn show_counts(rt: &impl Print, c: Counts) -> io::Result<()> {
-    trial_lines::print(rt, b" degree")?;
-    trial_lines::print_number(rt, c.degree as u64)?;
-    trial_lines::print(rt, b" taken")?;
-    trial_lines::print_number(rt, c.taken as u64)?;
-    trial_lines::print(rt, b" spent")?;
-    trial_lines::print_number(rt, c.spent as u64)
+    print!(rt; " degree {} taken {} spent {}", c.degree, c.taken, c.spent)
 }

@@ -3,233 +3,172 @@
 // what an index needs; what a line means is shown by running the programs over it.
 #![tactic(auto)]
 
-ghost use Rattle.std.specs.Prelude.{◌+◌, ◌<◌, ◌≤◌, length};
+ghost use Rattle.std.specs.Prelude.{◌<◌, ◌≤◌, length, IfOk, IfSome};
 
 use std::io;
 
-// The first place from `at` on that holds the mark, or the length.
-pub fn find(s: &[u8], at: usize, mark: u8) -> usize
-    requires { at ≤ length s.now }
-    ensures { (at ≤ result) × (result ≤ length s.now) }
-{
-    let mut i = at;
-    while i < s.len() {
-        if s[i] == mark {
-            return i;
-        }
-        i += 1;
-    }
-    i
-}
-
-// Whether the line's word is this one.
-pub fn named(line: &[u8], word: &[u8]) -> bool {
-    let n = word.len();
-    if line.len() < n {
-        return false;
-    }
-    let mut i = 0;
-    while i < n {
-        if line[i] != word[i] {
-            return false;
-        }
-        i += 1;
-    }
-    if line.len() == n {
-        return true;
-    }
-    line[n] == b' '
-}
-
-// The line's word.
-pub fn word<'a>(line: &'a [u8]) -> &'a [u8] {
-    let end = find(line, 0, b' ');
-    &line[0..end]
-}
-
-// The group with this number, counted from 0; empty where the line has none. The first one begins with the word.
-pub fn group<'a>(line: &'a [u8], number: usize) -> &'a [u8] {
-    let mut at = 0;
-    let mut left = number;
-    while 0 < left {
-        let bar = find(line, at, b'|');
-        if bar == line.len() {
-            return &line[bar..];
-        }
-        at = bar + 1;
-        left -= 1;
-    }
-    let end = find(line, at, b'|');
-    &line[at..end]
-}
-
-fn is_digit(x: u8) -> bool {
-    b'0' <= x && x <= b'9'
-}
-
-// The first place from `at` on that holds a digit, or the length.
-fn digit(s: &[u8], at: usize) -> usize
-    requires { at ≤ length s.now }
-    ensures { (at ≤ result) × (result ≤ length s.now) }
-{
-    let mut i = at;
-    while i < s.len() {
-        if is_digit(s[i]) {
-            return i;
-        }
-        i += 1;
-    }
-    i
-}
-
-// A number, how often it stands there, and the place after it.
+// A number, and how often it stands there.
 #[derive(Clone, Copy)]
-struct Numeral {
+struct Run {
     count: u32,
     value: u32,
-    next: usize,
 }
 
 // The number times 10 plus a digit, modulo 2^32. The digit 0 is the byte 48.
 fn append(value: u32, x: u8) -> u32 {
-    ((value as u64 * 10 + x as u64 % 48) % 4294967296) as u32
+    value.wrapping_mul(10).wrapping_add(u32::from(x % 48))
 }
 
-// The number whose first digit stands at the place `at`.
-fn digits(s: &[u8], at: usize) -> Numeral
-    requires { at < length s.now }
-    ensures { (at < result.next) × (result.next ≤ length s.now) }
+// The number at the front of the bytes, which goes on as long as digits follow, and what stands behind it.
+fn numeral(s: &[u8]) -> (u32, &[u8])
+    requires { 0 < length s.now }
+    ensures { length result.1.now < length s.now }
 {
-    let mut value = append(0, s[at]);
-    let mut i = at + 1;
-    while i < s.len() {
-        let x = s[i];
-        if !is_digit(x) {
-            return Numeral {
-                count: 1,
+    let end = match s[1..].iter().position(|x| !x.is_ascii_digit()) {
+        Some(more) => 1 + more,
+        None => s.len(),
+    };
+    let (digits, behind) = s.split_at(end);
+    (digits.iter().fold(0, |value, x| append(value, *x)), behind)
+}
+
+// The first number or repeated number, and what stands behind it.
+fn next_run(s: &[u8]) -> Option<(Run, &[u8])>
+    ensures { IfSome result (λ r. length r.1.now < length s.now) }
+{
+    let start = s.iter().position(|x| x.is_ascii_digit())?;
+    let (first, behind) = numeral(&s[start..]);
+    if let [b'*', _, ..] = behind {
+        let (value, rest) = numeral(&behind[1..]);
+        return Some((
+            Run {
+                count: first,
                 value,
-                next: i,
-            };
-        }
-        value = append(value, x);
-        i += 1;
+            },
+            rest,
+        ));
     }
-    Numeral {
+    let once = Run {
         count: 1,
-        value,
-        next: i,
-    }
+        value: first,
+    };
+    Some((once, behind))
 }
 
-// The number or the repeated number that begins at the place `at`.
-fn token(s: &[u8], at: usize) -> Numeral
-    requires { at < length s.now }
-    ensures { (at < result.next) × (result.next ≤ length s.now) }
-{
-    let first = digits(s, at);
-    let star = first.next;
-    if star == s.len() {
-        return first;
-    }
-    if s[star] != b'*' {
-        return first;
-    }
-    let from = star + 1;
-    if from == s.len() {
-        return first;
-    }
-    let second = digits(s, from);
-    Numeral {
-        count: first.value,
-        value: second.value,
-        next: second.next,
-    }
-}
+// A group has more numbers than there is room for.
+#[derive(Clone, Copy)]
+pub struct TooLong;
 
-// The first number of a group, or 0 where it has none.
-pub fn number(s: &[u8]) -> u32 {
-    let at = digit(s, 0);
-    if at == s.len() {
-        return 0;
-    }
-    let t = token(s, at);
-    t.value
-}
-
-// The first number of a group, modulo 256.
-pub fn byte(s: &[u8]) -> u8 {
-    (number(s) % 256) as u8
-}
-
-// Writes the value, modulo 256, `count` times from the place `at` on, as far as there is room. Answers the place after the last.
-fn put(out: &mut [u8], at: usize, count: u32, value: u32) -> usize
-    requires { at ≤ length out.old }
-    ensures { (at ≤ result) × (result ≤ length out.old) }
-{
-    let x = (value % 256) as u8;
-    let mut i = at;
-    let mut left = count;
-    while 0 < left {
-        if i == out.len() {
-            return i;
-        }
-        out[i] = x;
-        i += 1;
-        left -= 1;
-    }
-    i
-}
-
-// How many numbers were written, and whether these are all.
+// Why a line has no answer.
 #[derive(Drop)]
-pub struct Filled {
-    pub count: usize,
-    pub whole: bool,
+pub enum Unanswered {
+    TooLong,
+    Output(io::Error),
 }
 
-// Writes the numbers of a group, modulo 256, from the front on, as far as there is room.
-pub fn fill(s: &[u8], out: &mut [u8]) -> Filled
-    ensures { result.count ≤ length out.new }
-{
-    let mut at = digit(s, 0);
-    let mut count = 0;
-    while at < s.len() {
-        let t = token(s, at);
-        let next = put(out, count, t.count, t.value);
-        if next - count != t.count as usize {
-            return Filled {
-                count: next,
-                whole: false,
-            };
-        }
-        count = next;
-        at = digit(s, t.next);
+impl From<TooLong> for Unanswered {
+    fn from(_: TooLong) -> Unanswered {
+        Unanswered::TooLong
     }
-    Filled { count, whole: true }
 }
 
-pub fn print(rt: &impl Print, text: &[u8]) -> io::Result<()> {
-    rt.write_all(text)
+impl From<io::Error> for Unanswered {
+    fn from(error: io::Error) -> Unanswered {
+        Unanswered::Output(error)
+    }
 }
 
-// A space and the number.
-pub fn print_number(rt: &impl Print, x: u64) -> io::Result<()> {
-    print!(rt; " {x}")
+// A line of the input, without its end.
+#[derive(Clone, Copy)]
+pub struct Line<'a> {
+    bytes: &'a [u8],
 }
 
-// A space and the byte as a number.
-pub fn print_byte(rt: &impl Print, x: u8) -> io::Result<()> {
-    print_number(rt, x as u64)
+impl<'a> Line<'a> {
+    // The line's word.
+    pub fn word(self) -> &'a [u8] {
+        self.bytes
+            .split(|x| *x == b' ')
+            .next()
+            .unwrap_or(self.bytes)
+    }
+
+    // What follows the word and the space behind it.
+    pub fn behind_word(self) -> &'a [u8] {
+        self.bytes.splitn(2, |x| *x == b' ').nth(1).unwrap_or(&[])
+    }
+
+    // The group with this number, counted from 0; empty where the line has none. The first one begins with the word.
+    pub fn group(self, number: usize) -> &'a [u8] {
+        self.bytes.split(|x| *x == b'|').nth(number).unwrap_or(&[])
+    }
+
+    // The first number of a group, or 0 where it has none.
+    pub fn number(self, group: usize) -> u32 {
+        match next_run(self.group(group)) {
+            Some((run, _)) => run.value,
+            None => 0,
+        }
+    }
+
+    // The first number of a group, modulo 256.
+    pub fn byte(self, group: usize) -> u8 {
+        (self.number(group) % 256) as u8
+    }
+
+    // Writes the numbers of a group, modulo 256, at the front of the room and hands them out.
+    pub fn fill<'b>(self, group: usize, room: &'b mut [u8]) -> Result<&'b mut [u8], TooLong>
+        ensures { IfOk result (λ f. length f.now ≤ length room.old) }
+    {
+        let mut count = 0;
+        let mut rest = self.group(group);
+        while let Some((run, behind)) = next_run(rest) {
+            if room.len() - count < run.count as usize {
+                return Err(TooLong);
+            }
+            let end = count + run.count as usize;
+            room[count..end].fill((run.value % 256) as u8);
+            count = end;
+            rest = behind;
+        }
+        Ok(&mut room[..count])
+    }
 }
 
 // The numbers, each after a space.
 pub fn print_list(rt: &impl Print, s: &[u8]) -> io::Result<()> {
     for x in s {
-        print_byte(rt, *x)?;
+        print!(rt; " {x}")?;
     }
     Ok(())
 }
 
-pub fn end_line(rt: &impl Print) -> io::Result<()> {
-    print(rt, b"\n")
+// Reads the lines of standard input, as many bytes as there is room for, and prints a line for each: comment lines, which begin with `#`, and empty ones as
+// they are, and of any other its word and then what the closure prints.
+pub fn answer_lines<F: FnMut(Line) -> Result<(), Unanswered>>(
+    rt: &(impl Input + Print),
+    room: &mut [u8],
+    mut answer: F,
+) -> io::Result<()>
+    requires { F.IsAlwaysCallable answer }
+{
+    let count = input::read_all(&mut rt.reader(), room)?;
+    for ended in room[..count].split_inclusive(|x| *x == b'\n') {
+        let bytes = ended.strip_suffix(b"\n").unwrap_or(ended);
+        match bytes {
+            [] => {}
+            [b'#', ..] => rt.write_all(bytes)?,
+            _ => {
+                let line = Line { bytes };
+                rt.write_all(line.word())?;
+                match answer(line) {
+                    Ok(()) => {}
+                    Err(Unanswered::TooLong) => print!(rt; " too long")?,
+                    Err(Unanswered::Output(error)) => return Err(error),
+                }
+            }
+        }
+        println!(rt; "")?;
+    }
+    Ok(())
 }

@@ -6,167 +6,102 @@
 
 ghost use Rattle.std.specs.Prelude.{◌≤◌, length, IfOk};
 
-use calls::{Chained, Ordered, Perioded, Stood};
+use calls::Stood;
 use meaning::{CANDIDATE_ROOM, COEFFICIENTS, MATRIX_ROOM, STAGE_RECORD};
-use reasons::Reason;
+use reasons::{Numbers, Reason};
 use std::io;
 use std::io::Read;
 
 // It pays for every list.
-const ALLOWANCE: u32 = meaning::CANDIDATE_ROOM as u32;
+const ALLOWANCE: u32 = CANDIDATE_ROOM as u32;
+
+// A machine of width n over Z/p with a list of rows, and how many calls are made on them.
+#[derive(Clone, Copy)]
+struct Work<'a> {
+    times: u16,
+    p: u32,
+    n: usize,
+    m: &'a [u8],
+    cs: &'a [u8],
+}
+
+// Makes the calls; what the last of them gives.
+fn repeat<T: Drop, F: FnMut() -> T>(times: u16, mut call: F) -> Option<T>
+    requires { F.IsAlwaysCallable call }
+{
+    let mut last = None;
+    for _ in 0..times {
+        last = Some(call());
+    }
+    last
+}
 
 fn refuse(rt: &impl Print, reason: Reason) -> io::Result<()> {
-    trial_lines::print(rt, b"REFUSED")?;
-    trial_lines::print_byte(rt, reasons::as_numbers(reason).number)
+    print!(rt; "REFUSED {}", Numbers::from(reason).number)
 }
 
-// What stands behind the mark: the witness, or 0, and the degree.
-fn show_stand(rt: &impl Print, witness: usize, degree: usize) -> io::Result<()> {
-    trial_lines::print_number(rt, witness as u64)?;
-    trial_lines::print_number(rt, degree as u64)
+// The buffer of a polynomial, whole, as the line's end.
+fn end_line(rt: &impl Print, poly: &[u8]) -> io::Result<()> {
+    trial_lines::print_list(rt, poly)?;
+    println!(rt; "")
 }
 
-fn stand(
-    rt: &impl Print,
-    last: bool,
-    p: u8,
-    n: u8,
-    m: &[u8],
-    cs: &[u8],
-    poly: &mut [u8],
-    image: &mut [u8],
-) -> io::Result<()> {
-    let stood = calls::stand(p as u32, n as usize, m, cs, ALLOWANCE, poly, image);
-    if !last {
-        return Ok(());
-    }
+// Behind the mark stand the witness, or 0, and the degree.
+fn stand(rt: &impl Print, work: Work) -> io::Result<()> {
+    let mut poly = [0u8; COEFFICIENTS];
+    let mut image = [0u8; STAGE_RECORD];
+    let stood = repeat(work.times, || {
+        calls::stand(
+            work.p, work.n, work.m, work.cs, ALLOWANCE, &mut poly, &mut image,
+        )
+    });
     match stood {
-        Stood::Proved(counts) => {
-            trial_lines::print(rt, b"STAND PROVED")?;
-            show_stand(rt, 0, counts.degree)?;
-        }
-        Stood::Short(counts, witness) => {
-            trial_lines::print(rt, b"STAND SHORT")?;
-            show_stand(rt, witness, counts.degree)?;
-        }
-        Stood::Refused(reason) => refuse(rt, reason)?,
+        None => return Ok(()),
+        Some(Ok(Stood::Proved(counts))) => print!(rt; "STAND PROVED 0 {}", counts.degree)?,
+        Some(Ok(Stood::Short(counts, witness))) => print!(rt;
+            "STAND SHORT {witness} {}",
+            counts.degree
+        )?,
+        Some(Err(reason)) => refuse(rt, reason)?,
     }
-    trial_lines::print_list(rt, poly)?;
-    trial_lines::end_line(rt)
+    end_line(rt, &poly)
 }
 
-fn order(
-    rt: &impl Print,
-    last: bool,
-    p: u8,
-    n: u8,
-    m: &[u8],
-    v: &[u8],
-    poly: &mut [u8],
-) -> io::Result<()> {
-    let ordered = calls::order(p as u32, n as usize, m, v, poly);
-    if !last {
-        return Ok(());
-    }
+fn order(rt: &impl Print, work: Work) -> io::Result<()> {
+    let mut poly = [0u8; COEFFICIENTS];
+    let ordered = repeat(work.times, || {
+        calls::order(work.p, work.n, work.m, work.cs, &mut poly)
+    });
     match ordered {
-        Ordered::Degree(degree) => {
-            trial_lines::print(rt, b"ORDER")?;
-            trial_lines::print_number(rt, degree as u64)?;
-        }
-        Ordered::Refused(reason) => refuse(rt, reason)?,
+        None => return Ok(()),
+        Some(Ok(degree)) => print!(rt; "ORDER {degree}")?,
+        Some(Err(reason)) => refuse(rt, reason)?,
     }
-    trial_lines::print_list(rt, poly)?;
-    trial_lines::end_line(rt)
+    end_line(rt, &poly)
 }
 
-fn chain(
-    rt: &impl Print,
-    last: bool,
-    p: u8,
-    n: u8,
-    m: &[u8],
-    cs: &[u8],
-    poly: &mut [u8],
-    stages: &mut [u8],
-) -> io::Result<()> {
-    let chained = calls::chain(p as u32, n as usize, m, cs, poly, stages);
-    if !last {
-        return Ok(());
-    }
+fn chain(rt: &impl Print, work: Work) -> io::Result<()> {
+    let mut poly = [0u8; COEFFICIENTS];
+    let mut stages = [0u8; STAGE_RECORD];
+    let chained = repeat(work.times, || {
+        calls::chain(work.p, work.n, work.m, work.cs, &mut poly, &mut stages)
+    });
     match chained {
-        Chained::Stages(count) => {
-            trial_lines::print(rt, b"CHAIN")?;
-            trial_lines::print_number(rt, count as u64)?;
-        }
-        Chained::Refused(reason) => refuse(rt, reason)?,
+        None => return Ok(()),
+        Some(Ok(count)) => print!(rt; "CHAIN {count}")?,
+        Some(Err(reason)) => refuse(rt, reason)?,
     }
-    trial_lines::print_list(rt, poly)?;
-    trial_lines::end_line(rt)
+    end_line(rt, &poly)
 }
 
-fn period(rt: &impl Print, last: bool, p: u8, n: u8, m: &[u8]) -> io::Result<()> {
-    let perioded = calls::period(p as u32, n as usize, m);
-    if !last {
-        return Ok(());
+fn period(rt: &impl Print, work: Work) -> io::Result<()> {
+    match repeat(work.times, || calls::period(work.p, work.n, work.m)) {
+        None => return Ok(()),
+        Some(Ok(Some(t))) => print!(rt; "PERIOD {t}")?,
+        Some(Ok(None)) => print!(rt; "PERIOD none")?,
+        Some(Err(reason)) => refuse(rt, reason)?,
     }
-    match perioded {
-        Perioded::Least(t) => {
-            trial_lines::print(rt, b"PERIOD")?;
-            trial_lines::print_number(rt, t as u64)?;
-        }
-        Perioded::Never => trial_lines::print(rt, b"PERIOD none")?,
-        Perioded::Refused(reason) => refuse(rt, reason)?,
-    }
-    trial_lines::end_line(rt)
-}
-
-// One call; the last one's answer is printed. The room is for what a call fills besides a polynomial.
-fn call(
-    rt: &impl Print,
-    letter: u8,
-    last: bool,
-    p: u8,
-    n: u8,
-    m: &[u8],
-    cs: &[u8],
-    poly: &mut [u8],
-    room: &mut [u8],
-) -> io::Result<()> {
-    match letter {
-        b's' => stand(rt, last, p, n, m, cs, poly, room),
-        b'o' => order(rt, last, p, n, m, cs, poly),
-        b'c' => chain(rt, last, p, n, m, cs, poly, room),
-        b't' => period(rt, last, p, n, m),
-        _ => Ok(()),
-    }
-}
-
-fn call_all(
-    rt: &impl Print,
-    letter: u8,
-    times: u32,
-    p: u8,
-    n: u8,
-    m: &[u8],
-    cs: &[u8],
-    poly: &mut [u8],
-    room: &mut [u8],
-) -> io::Result<()> {
-    let mut k = 0;
-    while k < times {
-        k += 1;
-        call(rt, letter, k == times, p, n, m, cs, poly, room)?;
-    }
-    Ok(())
-}
-
-// The number whose low byte comes first.
-fn two_bytes(low: u8, high: u8) -> u32 {
-    low as u32 + 256 * high as u32
-}
-
-fn product(a: u8, b: u8) -> usize {
-    a as usize * b as usize
+    end_line(rt, &[])
 }
 
 // The next bytes of the input, so many where there is room for them and else none, at the front of the buffer.
@@ -176,29 +111,31 @@ fn take(from: &mut impl Read, count: usize, buf: &mut [u8]) -> io::Result<usize>
     if buf.len() < count {
         return Ok(0);
     }
-    input::read_all(from, &mut buf[..count]).whole()
+    Ok(input::read_all(from, &mut buf[..count])?)
 }
 
 fn main(rt: HostRuntime) -> io::Result<()> {
     let mut from = rt.reader();
     let mut head = [0u8; 6];
     take(&mut from, 6, &mut head)?;
-    let n = head[2];
+    let [letter, p, n, low, high, rows] = head;
+    let n = usize::from(n);
     let mut m = [0u8; MATRIX_ROOM];
-    let entries = take(&mut from, product(n, n), &mut m)?;
+    let entries = take(&mut from, n * n, &mut m)?;
     let mut cs = [0u8; CANDIDATE_ROOM];
-    let listed = take(&mut from, product(head[5], n), &mut cs)?;
-    let mut poly = [0u8; COEFFICIENTS];
-    let mut room = [0u8; STAGE_RECORD];
-    call_all(
-        &rt,
-        head[0],
-        two_bytes(head[3], head[4]),
-        head[1],
+    let listed = take(&mut from, usize::from(rows) * n, &mut cs)?;
+    let work = Work {
+        times: u16::from_le_bytes([low, high]),
+        p: u32::from(p),
         n,
-        &m[..entries],
-        &cs[..listed],
-        &mut poly,
-        &mut room,
-    )
+        m: &m[..entries],
+        cs: &cs[..listed],
+    };
+    match letter {
+        b's' => stand(&rt, work),
+        b'o' => order(&rt, work),
+        b'c' => chain(&rt, work),
+        b't' => period(&rt, work),
+        _ => Ok(()),
+    }
 }

@@ -1,14 +1,17 @@
 -- What the tests of the program tell.
 --   test_prime     the modulus is a prime up to 251
+--   test_small     where no entry is bad, all are below the modulus
 --   test_nonzero   a polynomial whose size is not 0 is not zero
 --   test_monic     a polynomial whose leading coefficient is 1 is monic
 --   test_room      two monic polynomials whose degrees, less that of their gcd, come to 64 at most have a common multiple of such a degree
 -- Assumes nothing.
-use mathlib.Core.Path.{◌≡◌, sym, ap, ◌∙◌}
+use mathlib.Core.Path.{◌≡◌, sym, ap, subst, ◌∙◌}
 use mathlib.Core.Bool.{Bool, true}
 use Prim.Native.Nat.{ℕ, ◌+◌, ◌<◌, ◌≤◌}
 use native.Mathlib.Omega.{arith}
+use mathlib.Core.List.{List}
 use lib.ListN.{get_or}
+use Rattle.std.specs.Prelude.{None}
 use Rattle.algebra.specs.Field.{Prime, fp}
 use Rattle.algebra.specs.Row.{0ᵥ, Monic}
 use Rattle.algebra.specs.Poly.{coef, ◌⊠◌}
@@ -16,8 +19,11 @@ use Rattle.algebra.specs.Gcd.{size}
 use Rattle.algebra.proofs.Field.{fp_one}
 use Rattle.algebra.proofs.Poly.{monic_not_zero}
 use Rattle.algebra.proofs.Gcd.{gcd_from_divisors, lcm_by_gcd, size_none}
+use Rattle.meaning.specs.Bytes.{Small}
+use Rattle.meaning.specs.Entry.{first_bad}
 use Rattle.meaning.specs.Refusal.{is_prime}
 use Rattle.meaning.specs.Bounds.{largest_prime, coefficients}
+use Rattle.meaning.proofs.Entry.{first_bad_none}
 use Rattle.meaning.proofs.Refusal.{is_prime_prime}
 use Rattle.poly.specs.declared.Polynomial.{Polynomial}
 use Rattle.poly.specs.Polynomial.{po, Good}
@@ -26,6 +32,9 @@ use Rattle.poly.proofs.Laws.{good_at, good_below, good_size_own}
 
 pub test_prime : {b : Bool} (p : ℕ) → b ≡ is_prime p → b ≡ true → Prime p × (p ≤ largest_prime)
 test_prime p e t = is_prime_prime p (sym e ∙ t)
+
+pub test_small : {p q : ℕ} (l : List ℕ) → q ≡ p → first_bad q l ≡ None → Small p l
+test_small l e none = subst (λ p. Small p l) e (first_bad_none _ l none)
 
 pub test_nonzero : {p n : ℕ} {f : Polynomial} → Good p f → n ≡ size (po f.p f) → ¬ (n ≡ 0) → ¬ (coef (po p f) ≡ 0ᵥ)
 test_nonzero {p} {f = f} G e n z = n (good_size_own G e ∙ size_none (po p f) z)

@@ -6,72 +6,86 @@ mod polynomials;
 mod scalars;
 mod vectors;
 
-ghost use Rattle.std.specs.Prelude.{◌<◌};
+ghost use Rattle.std.specs.Prelude.{◌<◌, IfOk};
 ghost use Rattle.algebra.specs.Field.{Prime};
 
 use std::io;
+use trial_lines::{Line, TooLong, Unanswered};
 
-fn refuse(rt: &impl Print) -> io::Result<()> {
-    trial_lines::print(rt, b" refused")
+// Why a function is not called, or its answer not printed.
+#[derive(Drop)]
+enum Failure {
+    // What the function requires does not hold, or a group of the line has more numbers than there is room for.
+    Refused,
+    Output(io::Error),
 }
 
-// The modulus that follows the line's word, or 0 where that is no byte.
-fn modulus(line: &[u8]) -> u8 {
-    let p = trial_lines::number(trial_lines::group(line, 0));
-    if 255 < p {
-        return 0;
+impl From<TooLong> for Failure {
+    fn from(_: TooLong) -> Failure {
+        Failure::Refused
     }
-    p as u8
 }
 
-// The prime that follows the line's word, or 0 where that is no prime up to 251.
-fn prime(line: &[u8]) -> u8
-    ensures { 0 < result → Prime result }
+impl From<io::Error> for Failure {
+    fn from(error: io::Error) -> Failure {
+        Failure::Output(error)
+    }
+}
+
+// The modulus that follows the line's word: a byte above 0.
+fn modulus(line: Line) -> Result<u8, Failure>
+    ensures { IfOk result (λ p. 0 < p) }
 {
-    let p = trial_lines::number(trial_lines::group(line, 0));
+    match u8::try_from(line.number(0)) {
+        Ok(p) if p != 0 => Ok(p),
+        _ => Err(Failure::Refused),
+    }
+}
+
+// The prime that follows the line's word, up to 251.
+fn prime(line: Line) -> Result<u8, Failure>
+    ensures { IfOk result (λ p. Prime p) }
+{
+    let p = line.number(0);
     if scalar::is_prime(p) {
-        return p as u8;
+        return Ok(p as u8);
     }
-    0
+    Err(Failure::Refused)
 }
 
-fn answer(rt: &impl Print, line: &[u8]) -> io::Result<()> {
-    trial_lines::print(rt, trial_lines::word(line))?;
-    if scalars::answered(rt, line)? {
-        return Ok(());
+// Calls the function that the line's word names.
+fn call(rt: &impl Print, line: Line) -> Result<(), Failure> {
+    match line.word() {
+        b"prime" => scalars::is_prime(rt, line),
+        b"inverse" => scalars::inverse(rt, line),
+        b"opposite" => scalars::opposite(rt, line),
+        b"sum" => scalars::of_two(rt, line, |p, a, b| scalar::sum(p, a, b)),
+        b"difference" => scalars::of_two(rt, line, |p, a, b| scalar::difference(p, a, b)),
+        b"product" => scalars::of_two(rt, line, |p, a, b| scalar::product(p, a, b)),
+        b"bad" => vectors::bad(rt, line),
+        b"advance" => vectors::advance(rt, line),
+        b"image" => vectors::image(rt, line),
+        b"dot" => vectors::dot(rt, line),
+        b"scale" => polynomials::scale(rt, line),
+        b"monic" => polynomials::monic(rt, line),
+        b"size" => polynomials::size(rt, line),
+        b"shifted" => polynomials::shifted(rt, line),
+        b"times" => polynomials::times(rt, line),
+        b"divide" => polynomials::divide(rt, line),
+        b"gcd" => polynomials::gcd(rt, line),
+        b"lcm" => polynomials::lcm(rt, line),
+        _ => Ok(print!(rt; " unknown")?),
     }
-    if vectors::answered(rt, line)? {
-        return Ok(());
-    }
-    if polynomials::answered(rt, line)? {
-        return Ok(());
-    }
-    trial_lines::print(rt, b" unknown")
 }
 
-fn run(rt: &impl Print, line: &[u8]) -> io::Result<()> {
-    if line.len() == 0 {
-        return Ok(());
+fn answer(rt: &impl Print, line: Line) -> Result<(), Unanswered> {
+    match call(rt, line) {
+        Ok(()) => Ok(()),
+        Err(Failure::Refused) => Ok(print!(rt; " refused")?),
+        Err(Failure::Output(error)) => Err(Unanswered::Output(error)),
     }
-    if line[0] == b'#' {
-        return trial_lines::print(rt, line);
-    }
-    answer(rt, line)
-}
-
-fn run_all(rt: &impl Print, text: &[u8]) -> io::Result<()> {
-    let mut at = 0;
-    while at < text.len() {
-        let end = trial_lines::find(text, at, b'\n');
-        run(rt, &text[at..end])?;
-        trial_lines::end_line(rt)?;
-        at = end + 1;
-    }
-    Ok(())
 }
 
 fn main(rt: HostRuntime) -> io::Result<()> {
-    let mut text = [0u8; 65536];
-    let n = input::read_all(&mut rt.reader(), &mut text).whole()?;
-    run_all(&rt, &text[..n])
+    trial_lines::answer_lines(&rt, &mut [0u8; 65536], |line| answer(&rt, line))
 }

@@ -2,19 +2,16 @@
 ghost use Rattle.std.specs.Prelude.{IfOk};
 ghost use Rattle.reader.specs.Step.{StepIs};
 
-use crate::{refuse, skip};
+use crate::{FILE_LENT, refuse};
 use reader::{Cursor, Step, Stepped};
 use std::io;
+use trial_lines::{Line, Unanswered};
 
-pub fn answer(rt: &impl Print, line: &[u8]) -> io::Result<()> {
-    let mut f = [0u8; 12800];
-    let file = trial_lines::fill(trial_lines::group(line, 0), &mut f);
-    let k = file.count;
-    if file.whole {
-        walk(rt, &f[..k])
-    } else {
-        skip(rt)
-    }
+pub fn answer(rt: &impl Print, line: Line) -> Result<(), Unanswered> {
+    let mut file = [0u8; FILE_LENT];
+    let file = line.fill(0, &mut file)?;
+    walk(rt, file)?;
+    Ok(())
 }
 
 // The last step, which hands out no record, is made twice: it must say the same again.
@@ -23,11 +20,9 @@ fn walk(rt: &impl Print, s: &[u8]) -> io::Result<()> {
     loop {
         let stepped = step(rt, s, at)?;
         at = stepped.next;
-        let said = stepped.step;
-        match said {
-            Step::Over => break,
-            Step::Refused(_) => break,
-            _ => {}
+        let Ok(said) = stepped.step else { break };
+        if let Step::Over = said {
+            break;
         }
     }
     step(rt, s, at)?;
@@ -39,34 +34,21 @@ fn step(rt: &impl Print, s: &[u8], at: Cursor) -> io::Result<Stepped>
     ensures { IfOk result (λ r. StepIs s.now at.at r) }
 {
     let stepped = reader::step_from(s, at);
-    let said = stepped.step;
-    trial_lines::print(rt, b" |")?;
-    match said {
-        Step::Field { p, n } => show_field(rt, p, n)?,
-        Step::Allow { high, low } => show_allow(rt, high, low)?,
-        Step::Row => {
-            trial_lines::print(rt, b" row")?;
+    print!(rt; " |")?;
+    match stepped.step {
+        Ok(Step::Field { p, n }) => print!(rt; " field {p} {n}")?,
+        Ok(Step::Allow { high, low }) => print!(rt; " allow {high} {low}")?,
+        Ok(Step::Row) => {
+            print!(rt; " row")?;
             trial_lines::print_list(rt, reader::entries(s, stepped))?;
         }
-        Step::Candidate => {
-            trial_lines::print(rt, b" candidate")?;
+        Ok(Step::Candidate) => {
+            print!(rt; " candidate")?;
             trial_lines::print_list(rt, reader::entries(s, stepped))?;
         }
-        Step::End => trial_lines::print(rt, b" end")?,
-        Step::Over => trial_lines::print(rt, b" over")?,
-        Step::Refused(place) => refuse(rt, place)?,
+        Ok(Step::End) => print!(rt; " end")?,
+        Ok(Step::Over) => print!(rt; " over")?,
+        Err(place) => refuse(rt, place)?,
     }
     Ok(stepped)
-}
-
-fn show_field(rt: &impl Print, p: u32, n: usize) -> io::Result<()> {
-    trial_lines::print(rt, b" field")?;
-    trial_lines::print_number(rt, p as u64)?;
-    trial_lines::print_number(rt, n as u64)
-}
-
-fn show_allow(rt: &impl Print, high: u8, low: u8) -> io::Result<()> {
-    trial_lines::print(rt, b" allow")?;
-    trial_lines::print_byte(rt, high)?;
-    trial_lines::print_byte(rt, low)
 }

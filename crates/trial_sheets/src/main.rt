@@ -4,13 +4,10 @@
 
 ghost use Rattle.std.specs.Prelude.{◌+◌, ◌<◌, ◌≤◌, ◌^◌, length, IfOk, IfSome};
 
-use design::Made;
 use meaning::LONGEST_CASE;
-use sheet::Sheeted;
 use std::env::{Env, FillError};
 use std::rt::Files;
 use std::{fs, io, str};
-use writer::Written;
 
 // The bytes of a name that are read.
 const NAME: usize = 64;
@@ -23,11 +20,6 @@ fn name<'a>(rt: &impl Env, i: usize, buf: &'a mut [u8]) -> &'a str {
     }
 }
 
-// The name of a sample, as its line begins.
-fn show_name(rt: &impl Print, name: &str) -> io::Result<()> {
-    trial_lines::print(rt, name.as_bytes())
-}
-
 // Whether there is an argument i.
 fn is_given(rt: &impl Env, i: usize) -> bool {
     !matches!(rt.arg(i, &mut []), Err(FillError::NotPresent))
@@ -38,7 +30,7 @@ fn read(rt: &impl Files, name: &str, buf: &mut [u8]) -> io::Result<usize>
     ensures { IfOk result (λ k. k ≤ length buf.new) }
 {
     let mut file = fs::open(rt, name)?;
-    input::read_all(&mut file, buf).whole()
+    Ok(input::read_all(&mut file, buf)?)
 }
 
 // The same; why it cannot be read is said on standard error.
@@ -57,38 +49,28 @@ fn load(rt: &(impl Files + Eprint), name: &str, buf: &mut [u8]) -> io::Result<Op
 // Whether the sheet of the file is the stored one.
 fn judge(rt: &impl Print, file: &[u8], stored: &[u8]) -> io::Result<()> {
     let mut out = [0u8; sheet::ROOM];
-    let answer = sheet::sheet(file, &mut out);
-    match answer {
-        Sheeted::Length(k) => {
+    match sheet::sheet(file, &mut out) {
+        Ok(k) => {
             if &out[..k] == stored {
-                trial_lines::print(rt, b" same\n")
+                println!(rt; " same")
             } else {
-                trial_lines::print(rt, b" differs\n")
+                println!(rt; " differs")
             }
         }
-        Sheeted::Refused(_) => trial_lines::print(rt, b" refused\n"),
-    }
-}
-
-// The same of the first k bytes.
-fn judge_front(rt: &impl Print, file: &[u8], k: usize, stored: &[u8]) -> io::Result<()> {
-    if k <= file.len() {
-        judge(rt, &file[..k], stored)
-    } else {
-        Ok(())
+        Err(_) => println!(rt; " refused"),
     }
 }
 
 // The same of the case that a design's text says.
 fn judge_text(rt: &impl Print, text: &[u8], stored: &[u8]) -> io::Result<()> {
     let mut case = [0u8; LONGEST_CASE];
-    let made = design::make(text, &mut case);
-    match made {
-        Made::Case(wrote) => match wrote {
-            Written::Length(k) => judge_front(rt, &case, k, stored),
-            Written::Refused(_) => trial_lines::print(rt, b" refused\n"),
+    match design::make(text, &mut case) {
+        Ok(Ok(k)) => match case.get(..k) {
+            Some(case) => judge(rt, case, stored),
+            None => Ok(()),
         },
-        Made::Wrong { .. } => trial_lines::print(rt, b" wrong\n"),
+        Ok(Err(_)) => println!(rt; " refused"),
+        Err(_) => println!(rt; " wrong"),
     }
 }
 
@@ -107,7 +89,7 @@ fn try_pair(rt: &(impl Env + Files + Print + Eprint), i: usize) -> io::Result<()
     let mut room = [0u8; NAME];
     let mut sheet_room = [0u8; NAME];
     let sample = name(rt, i, &mut room);
-    show_name(rt, sample)?;
+    print!(rt; "{sample}")?;
     let loaded = load(rt, sample, &mut file)?;
     let stored = load(rt, name(rt, i + 1, &mut sheet_room), &mut sheet)?;
     match (loaded, stored) {
@@ -118,7 +100,7 @@ fn try_pair(rt: &(impl Env + Files + Print + Eprint), i: usize) -> io::Result<()
                 judge(rt, &file[..k], &sheet[..d])
             }
         }
-        _ => trial_lines::print(rt, b" unread\n"),
+        _ => println!(rt; " unread"),
     }
 }
 

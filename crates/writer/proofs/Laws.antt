@@ -9,6 +9,8 @@
 --   marked_room       there is room for that one
 --   marked_all        all rows
 --   rows_fit, rows_turn   one record more, behind those of the first rows
+--   NextRow, next_row   the next row of a cut into rows, and what is behind it
+--   last_row          where less than a row is left, all rows came
 --   square_whole      a matrix is a whole number of rows
 --   head_of p n a      the first two records of a case
 --   written_parts     a case is these, its rows, its candidates and its end
@@ -23,7 +25,8 @@ use native.Mathlib.Nat.{add-zero, div-eq_of_eq-mul_left}
 use native.Mathlib.Numerals.{add-one}
 use native.Mathlib.Omega.{arith}
 use lib.ListN.{length, take, drop, length-append, length-drop, take-append-drop}
-use lib.Seq.{take_at, length-take-le, drop-append-add, drop-drop, take_all}
+use lib.Seq.{take_at, drop_at, length-take-le, drop-append-add, drop-drop, take_all}
+use Rattle.std.proofs.lemmas.Nat.{le-div, div_below}
 use Rattle.meaning.specs.Bytes.{byte_rows, row_at, write}
 use Rattle.meaning.specs.Bounds.{Sound}
 use Rattle.meaning.specs.Case.{Record, record_bytes, flat, records, case_bytes, radix}
@@ -117,6 +120,26 @@ pub rows_turn : {d e f x : List ℕ} {at r q t : ℕ} (b n : ℕ) (s : List ℕ)
 rows_turn {d} {e} {f} {at = at} {r} {q} {t} b n s h k A g B =
     let all = laid_turn (omega arith) A (subst (λ l. LaidAt e r (255 ∷ b ∷ l) q f) g B) in
     subst (λ l. LaidAt d at l q f) (sym (marked_next b n s h) ∙ ap (λ j. marked b (take j (byte_rows n s))) (sym (add-one t))) all
+
+-- the row of number t, where the t before it came, and what is behind it
+pub record NextRow (n t : ℕ) (s x rest : List ℕ) : Type 0 where
+  pub more : t < length s / n
+  pub row : x ≡ row_at n s t
+  pub behind : rest ≡ drop ((t + 1) * n) s
+
+pub next_row : {l x rest : List ℕ} (n t : ℕ) (s : List ℕ) → 0 < n → l ≡ drop (t * n) s → l ≡ x ++ rest → length x ≡ n → NextRow n t s x rest
+unfolding row_at
+next_row {l} {x} {rest} n t s h e q k =
+    let d : drop (t * n) s ≡ x ++ rest = sym e ∙ q in
+    let room : (t + 1) * n ≤ length s = omega (arith, ap length d, length-append x rest, length-drop (t * n) s, k, h) in
+    record {
+      more = omega (arith, le-div (t + 1) (length s) n h room);
+      row = sym (ap (take n) d ∙ take_at x rest n k);
+      behind = sym (drop_at x rest n k) ∙ sym (ap (drop n) d) ∙ drop-drop n (t * n) s ∙ ap (λ j. drop j s) (omega arith);
+    }
+
+pub last_row : {l : List ℕ} (n t : ℕ) (s : List ℕ) → 0 < n → l ≡ drop (t * n) s → length l < n → length s / n ≤ t
+last_row n t s h e k = omega (arith, div_below (length s) n (t + 1) h (omega (arith, ap length e, length-drop (t * n) s)))
 
 -- a matrix is a whole number of rows
 pub square_whole : {p n : ℕ} {m : List ℕ} → Sound p n m → WholeRows n m

@@ -4,26 +4,19 @@
 ghost use Rattle.std.specs.Prelude.{◌∷◌, ◌+◌, ◌<◌, ◌≤◌, length};
 ghost use Rattle.meaning.specs.Bytes.{byte_rows};
 ghost use Rattle.meaning.specs.Writing.{WriteCall};
-ghost use Rattle.writer.specs.Answers.{written_of};
+ghost use Rattle.reasons.specs.Reasons.{answer_of};
 ghost use Rattle.writer.specs.Laying.{LaidAt, marked, WholeRows};
 
 use meaning::{MARK, RADIX};
-use reasons::{Checked, Reason};
+use reasons::Reason;
 
-// The length of the case.
-#[derive(Clone, Copy)]
-pub enum Written {
-    Length(usize),
-    Refused(Reason),
-}
-
-// The bytes of s from `at` on. What is returned is the place behind them.
+// The bytes of s from `at` on. What is returned is the place behind them; a struct that holds buffer and place would need a clause on what it lends.
 fn lay(s: &[u8], out: &mut [u8], at: usize) -> usize
     requires { at + length s.now ≤ length out.old }
     ensures { LaidAt out.old at s.now result out.new }
 {
     let behind = at + s.len();
-    rows::copy(s, &mut out[at..behind]);
+    out[at..behind].copy_from_slice(s);
     behind
 }
 
@@ -43,26 +36,25 @@ fn lay_rows(letter: u8, n: usize, s: &[u8], out: &mut [u8], at: usize) -> usize
     requires s_in_bounds { at + length (marked letter (byte_rows n s.now)) ≤ length out.old }
     ensures { LaidAt out.old at (marked letter (byte_rows n s.now)) result out.new }
 {
-    let count = s.len() / n;
     let mut behind = at;
-    let mut i = 0;
-    while i < count {
-        let from = i * n;
-        let to = from + n;
-        let next = lay_row(letter, &s[from..to], out, behind);
-        behind = next;
-        i += 1;
+    for row in s.chunks_exact(n) {
+        behind = lay_row(letter, row, out, behind);
     }
     behind
 }
 
-// The case with these values at the front of `out`; its A record has how often 128 goes into the allowance, and what is left over.
-pub fn write(p: u32, n: usize, m: &[u8], cs: &[u8], allowance: u32, out: &mut [u8]) -> Written
-    ensures { WriteCall p n m.now cs.now allowance out.old (written_of result) out.new }
+// The case with these values at the front of `out`, and its length; its A record has how often 128 goes into the allowance, and what is left over.
+pub fn write(
+    p: u32,
+    n: usize,
+    m: &[u8],
+    cs: &[u8],
+    allowance: u32,
+    out: &mut [u8],
+) -> Result<usize, Reason>
+    ensures { WriteCall p n m.now cs.now allowance out.old (answer_of result) out.new }
 {
-    if let Checked::Refused(reason) = refusals::of_write(p, n, m, cs, allowance, out) {
-        return Written::Refused(reason);
-    }
+    refusals::of_write(p, n, m, cs, allowance, out)?;
     let high = (allowance / RADIX) as u8;
     let low = (allowance % RADIX) as u8;
     let head = [MARK, b'F', p as u8, n as u8, MARK, b'A', high, low];
@@ -70,5 +62,5 @@ pub fn write(p: u32, n: usize, m: &[u8], cs: &[u8], allowance: u32, out: &mut [u
     let behind_rows = lay_rows(b'R', n, m, out, behind_head);
     let behind_candidates = lay_rows(b'C', n, cs, out, behind_rows);
     let end = [MARK, b'E'];
-    Written::Length(lay(&end, out, behind_candidates))
+    Ok(lay(&end, out, behind_candidates))
 }

@@ -1,76 +1,11 @@
 -- `calls::chain` meets its contract: where the refusal is none, the inputs are sound; the stages come from `stages`, and their product and their
 -- record are put to the front of their buffers. Assumes nothing.
-use mathlib.Core.Path.{◌≡◌, sym}
-use mathlib.Core.Option.{none}
-use Prim.Native.Nat.{◌+◌, ◌≤◌}
-use native.Mathlib.Omega.{arith}
-use borrow.Author.Rules.{rules}
-use lib.ListN.{length, length-take}
-use lib.Seq.{length-take-le}
-use Rattle.meaning.specs.Refusal.{chain_refusal}
-use Rattle.meaning.proofs.Refusal.{chain_sound}
-use Rattle.meaning.proofs.Called.{refused_by, given_by}
-use Rattle.meaning.specs.Bounds.{widest, coefficients}
-use Rattle.meaning.specs.Chain.{stage_room}
-use Rattle.calls.proofs.Laws.{chain-written}
+use mathlib.Core.Path.{sym}
+use Rattle.meaning.proofs.Called.{given_by}
+use Rattle.calls.proofs.Laws.{chain_told, chain-written}
 use Rattle.calls.proofs.chain.Goals as goal
-use Rattle.calls.proofs.chain.Goals.{After-link-links, In_default}
-
-taken : (c : In_default) → let x = c.args in
-    chain_refusal x.p x.n x.m.now x.cs.now x.product.now x.stages.now ≡ none
-taken c = sym c.in_default.ensures
-
-pub returns-in-Refused : goal.returns-in-Refused
-returns-in-Refused c = refused_by (sym c.in-Refused.ensures)
-
-pub overflow_cast-p : goal.overflow_cast-p
-overflow_cast-p c = omega (arith, chain_sound _ _ _ _ _ _ (sym c.in_default.ensures))
-
-pub link-links-requires : goal.link-links-requires
-link-links-requires c =
-    let S = chain_sound _ _ _ _ _ _ (sym c.in_default.ensures) in
-    record {
-      prime = S.0.prime;
-      le_n = (S.0.some_size, S.0.size);
-      m_len = S.0.matrix;
-      cs_len = S.1.whole;
-    }
-
--- the coefficients, the record and the buffers have their places
-room : (c : After-link-links) → let x = c.args in
-    (x.n + 1 ≤ coefficients) × (x.n + 1 ≤ length c.link-links.result.product.c) × (x.n + 1 ≤ length x.product.now)
-    × (stage_room x.n ≤ length c.link-links.result.«record») × (stage_room x.n ≤ length x.stages.now)
-room c =
-    let S = chain_sound _ _ _ _ _ _ (sym c.in_default.ensures) in
-    let most = S.0.size in
-    let long : length c.link-links.result.«record» ≡ stage_room widest = search rules in
-    (omega arith, omega (arith, c.link-links.ensures.product.good.places), S.2, omega arith, S.3)
-
-pub overflow_add-size : goal.overflow_add-size
-overflow_add-size c = omega (arith, room (goal.at.overflow_add-size c).After-link-links)
-
-pub overflow_mul-bytes : goal.overflow_mul-bytes
-overflow_mul-bytes c = omega (arith, room (goal.at.overflow_mul-bytes c).After-link-links)
-
-pub slice_bounds-coefficients-end : goal.slice_bounds-coefficients-end
-slice_bounds-coefficients-end c = omega (arith, room (goal.at.slice_bounds-coefficients-end c).After-link-links)
-
-pub slice_bounds-put-end : goal.slice_bounds-put-end
-slice_bounds-put-end c = sym (length-take-le _ _ (omega (arith, room (goal.at.slice_bounds-put-end c).After-link-links)))
-
-pub put-requires : goal.put-requires
-put-requires c = simp length-take (omega (arith, room (goal.at.put-requires c).After-link-links))
-
-pub slice_bounds-record-end : goal.slice_bounds-record-end
-slice_bounds-record-end c = omega (arith, room (goal.at.slice_bounds-record-end c).After-link-links)
-
-pub slice_bounds-put-end-2 : goal.slice_bounds-put-end-2
-slice_bounds-put-end-2 c = sym (length-take-le _ _ (omega (arith, room (goal.at.slice_bounds-put-end-2 c).After-link-links)))
-
-pub put-requires-2 : goal.put-requires-2
-put-requires-2 c = simp length-take (omega (arith, room (goal.at.put-requires-2 c).After-link-links))
 
 pub returns : goal.returns
 returns c =
-    let C = taken (goal.at.returns c).In_default in
-    given_by C (chain-written c.link-links.ensures (chain_sound _ _ _ _ _ _ C).0.size c.put.ensures c.put-2.ensures)
+    let S = chain_told _ _ _ _ _ _ c.in_ok-of_chain.ensures in
+    given_by (sym c.in_ok-of_chain.ensures) (chain-written c.link-links.ensures S.0.size c.put.ensures c.put-2.ensures)

@@ -1,62 +1,19 @@
 -- `calls::order` meets its contract: where the refusal is none, the inputs are sound; spun over no rows, the row's relative order is its order,
 -- and its first n + 1 coefficients are put to the front of the buffer. Assumes nothing.
-use mathlib.Core.Path.{◌≡◌, sym}
-use mathlib.Core.Option.{none}
-use Prim.Native.Nat.{◌+◌, ◌≤◌}
+use mathlib.Core.Path.{sym}
 use native.Mathlib.Omega.{arith}
-use lib.ListN.{length, replicate, length-take}
-use Rattle.meaning.specs.Refusal.{order_refusal}
-use Rattle.meaning.proofs.Refusal.{order_sound}
-use Rattle.meaning.proofs.Called.{refused_by, given_by}
-use Rattle.meaning.specs.Bounds.{widest, coefficients}
+use Rattle.meaning.proofs.Called.{given_by}
 use Rattle.spin.proofs.Laws.{before_empty, spinned_order}
-use Rattle.calls.proofs.Laws.{order_written}
+use Rattle.calls.proofs.Laws.{order_told, order_written}
 use Rattle.calls.proofs.order.Goals as goal
-use Rattle.calls.proofs.order.Goals.{After-spin-f, In_default}
 
-taken : (c : In_default) → let x = c.args in order_refusal x.p x.n x.m.now x.v.now x.out.now ≡ none
-taken c = sym c.in_default.ensures
-
-pub returns-in-Refused : goal.returns-in-Refused
-returns-in-Refused c = refused_by (sym c.in-Refused.ensures)
-
-pub overflow_cast-p : goal.overflow_cast-p
-overflow_cast-p c = omega (arith, order_sound _ _ _ _ _ (sym c.in_default.ensures))
-
-pub spin-f-requires : goal.spin-f-requires
-spin-f-requires c =
+pub spin-f-requires-clause-before : goal.spin-f-requires-clause-before
+spin-f-requires-clause-before c =
     let x = c.args in
-    let S = order_sound _ _ _ _ _ (taken (goal.at.spin-f-requires c).In_default) in
-    let most : x.n ≤ widest = S.0.size in
-    record {
-      prime = S.0.prime;
-      n_le_widest = most;
-      m_len = S.0.matrix;
-      v_len = S.1;
-      before = before_empty x.p x.n x.m.now (replicate 12480 0) (omega arith);
-    }
-
--- the coefficients and the buffer have n + 1 places
-room : (c : After-spin-f) → let x = c.args in
-    (x.n + 1 ≤ coefficients) × (x.n + 1 ≤ length c.spin-f.result.c) × (x.n + 1 ≤ length x.out.now)
-room c =
-    let S = order_sound _ _ _ _ _ (sym c.in_default.ensures) in
-    let most = S.0.size in
-    (omega arith, omega (arith, c.spin-f.ensures.good.places), S.3)
-
-pub overflow_add-count : goal.overflow_add-count
-overflow_add-count c = omega (arith, room (goal.at.overflow_add-count c).After-spin-f)
-
-pub slice_bounds-coefficients-end : goal.slice_bounds-coefficients-end
-slice_bounds-coefficients-end c = omega (arith, room (goal.at.slice_bounds-coefficients-end c).After-spin-f)
-
-pub slice_bounds-put-end : goal.slice_bounds-put-end
-slice_bounds-put-end c = simp length-take (omega (arith, room (goal.at.slice_bounds-put-end c).After-spin-f))
-
-pub put-requires : goal.put-requires
-put-requires c = simp length-take (omega (arith, room (goal.at.put-requires c).After-spin-f))
+    let S = order_told _ _ _ _ _ c.in_ok-of_order.ensures in
+    before_empty x.p x.n x.m.now _ (omega arith)
 
 pub returns : goal.returns
 returns c =
     let S = c.spin-f.ensures in
-    given_by (taken (goal.at.returns c).In_default) (order_written (spinned_order S) S.good (order_sound _ _ _ _ _ (taken (goal.at.returns c).In_default)).0.size c.put.ensures)
+    given_by (sym c.in_ok-of_order.ensures) (order_written (spinned_order S) S.good (order_told _ _ _ _ _ c.in_ok-of_order.ensures).0.size c.put.ensures)

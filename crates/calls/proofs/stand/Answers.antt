@@ -1,53 +1,21 @@
 -- `calls::stand` meets its contract: where the refusal is none, the inputs are sound; the rows taken and their lcm come from `taken`, its test from
 -- `witness`, and the polynomial and the witness's image are put to the front of their buffers. Assumes nothing.
-use mathlib.Core.Path.{◌≡◌, sym, ap₂}
-use mathlib.Core.Option.{none}
-use Prim.Native.Nat.{◌+◌, ◌≤◌}
+use mathlib.Core.Path.{◌≡◌, sym}
 use native.Mathlib.Omega.{arith}
 use borrow.Author.Rules.{rules}
 use lib.ListN.{length, take, length-take}
-use lib.Seq.{length-take-le}
-use Rattle.meaning.specs.Bytes.{times, rows}
-use Rattle.meaning.specs.Bounds.{widest, coefficients}
-use Rattle.meaning.specs.Refusal.{stand_refusal}
-use Rattle.meaning.specs.Stand.{standing_of}
-use Rattle.meaning.specs.Calls.{StandResult}
-use Rattle.meaning.proofs.Bytes.{rows_below}
-use Rattle.meaning.proofs.Refusal.{stand_sound}
-use Rattle.meaning.proofs.Called.{refused_by, given_by}
-use Rattle.meaning.proofs.Standing.{tested_within, standing_proved, standing_short}
-use Rattle.poly.specs.Polynomial.{po}
-use Rattle.witness.specs.Killing.{Killing}
-use Rattle.calls.proofs.Laws.{outcome_of, stand-written, stand_as}
 use Rattle.algebra.proofs.Orders.{below_take}
+use Rattle.meaning.specs.Bytes.{rows}
+use Rattle.meaning.specs.Bounds.{widest}
+use Rattle.meaning.specs.Stand.{proved, short}
+use Rattle.meaning.proofs.Bytes.{rows_below}
+use Rattle.meaning.proofs.Called.{given_by}
+use Rattle.calls.proofs.Laws.{stand_told, stand-written}
 use Rattle.calls.proofs.stand.Goals as goal
-use Rattle.calls.proofs.stand.Goals.{After-put-2, After-take_rows-gathered, After-witness_row-row, In_default}
-
-taken : (c : In_default) → let x = c.args in
-    stand_refusal x.p x.n x.m.now x.cs.now x.poly.now x.image.now ≡ none
-taken c = sym c.in_default.ensures
-
-pub returns-in-Refused : goal.returns-in-Refused
-returns-in-Refused c = refused_by (sym c.in-Refused.ensures)
-
-pub overflow_cast-field : goal.overflow_cast-field
-overflow_cast-field c = omega (arith, stand_sound _ _ _ _ _ _ (sym c.in_default.ensures))
-
-pub take_rows-gathered-requires : goal.take_rows-gathered-requires
-take_rows-gathered-requires c =
-    let S = stand_sound _ _ _ _ _ _ (taken (goal.at.take_rows-gathered-requires c).In_default) in
-    let most = S.0.size in
-    record {
-      prime = S.0.prime;
-      le_n = (S.0.some_size, most);
-      m_len = S.0.matrix;
-      cs_len = S.1.whole;
-      slot_in_bounds = omega arith;
-    }
 
 -- F is the least polynomial that sends the taken rows to zero
-killing : (c : After-take_rows-gathered) → let x = c.args in Killing x.p x.n x.m.now c.take_rows-gathered.result.poly
-killing c =
+pub witness-witness-requires-clause-killing : goal.witness-witness-requires-clause-killing
+witness-witness-requires-clause-killing c =
     let x = c.args in
     let t = c.take_rows-gathered.result.taken in
     let G = c.take_rows-gathered.ensures.gathered in
@@ -58,84 +26,23 @@ killing c =
       least = G.least;
     }
 
-pub witness-witness-requires : goal.witness-witness-requires
-witness-witness-requires c =
-    let S = stand_sound _ _ _ _ _ _ (taken (goal.at.witness-witness-requires c).In_default) in
-    record {
-      prime = S.0.prime;
-      le_n = (S.0.some_size, S.0.size);
-      m_len = S.0.matrix;
-      killing = killing (goal.at.witness-witness-requires c).After-take_rows-gathered;
-      known = c.take_rows-gathered.ensures.known;
-    }
-
-pub witness_row-row-requires : goal.witness_row-row-requires
-witness_row-row-requires c =
-    let S = stand_sound _ _ _ _ _ _ (taken (goal.at.witness_row-row-requires c).In_default) in
-    let x = c.args in
-    let h : c.witness-witness.result ≤ x.n =
-    tested_within (times x.p x.n x.m.now) x.n (po x.p c.take_rows-gathered.result.poly) c.witness-witness.result c.witness-witness.ensures in
-    record {
-      prime = S.0.prime;
-      n_le_widest = S.0.size;
-      m_len = S.0.matrix;
-      good = c.take_rows-gathered.ensures.gathered.good;
-      w_le_n = omega arith;
-    }
-
--- the coefficients, the image and the buffers have their places
-room : (c : After-witness_row-row) → let x = c.args in
-    (x.n + 1 ≤ coefficients) × (x.n + 1 ≤ length c.take_rows-gathered.result.poly.c) × (x.n + 1 ≤ length x.poly.now)
-    × (x.n ≤ length c.witness_row-row.result) × (x.n ≤ length x.image.now)
-room c =
-    let S = stand_sound _ _ _ _ _ _ (sym c.in_default.ensures) in
+pub put-requires-2 : goal.put-requires-2
+put-requires-2 c =
+    let S = stand_told _ _ _ _ _ _ c.in_ok-of_stand.ensures in
     let most = S.0.size in
     let long : length c.witness_row-row.result ≡ widest = search rules in
-    (omega arith, omega (arith, c.take_rows-gathered.ensures.gathered.good.places), S.2, omega arith, S.3)
+    simp length-take (omega (arith, S.3))
 
-pub overflow_add-places : goal.overflow_add-places
-overflow_add-places c = omega (arith, room (goal.at.overflow_add-places c).After-witness_row-row)
+pub returns-in-None : goal.returns-in-None
+returns-in-None c =
+    let S = stand_told _ _ _ _ _ _ c.in_ok-of_stand.ensures in
+    let row = rw c.in-None.is at c.witness_row-row.ensures in
+    given_by (sym c.in_ok-of_stand.ensures)
+    (stand-written proved 0 c.take_rows-gathered.ensures.gathered c.in-None.ensures S.0.size c.put.ensures row c.put-2.ensures)
 
-pub slice_bounds-coefficients-end : goal.slice_bounds-coefficients-end
-slice_bounds-coefficients-end c = omega (arith, room (goal.at.slice_bounds-coefficients-end c).After-witness_row-row)
-
-pub slice_bounds-put-end : goal.slice_bounds-put-end
-slice_bounds-put-end c = sym (length-take-le _ _ (omega (arith, room (goal.at.slice_bounds-put-end c).After-witness_row-row)))
-
-pub put-requires : goal.put-requires
-put-requires c = simp length-take (omega (arith, room (goal.at.put-requires c).After-witness_row-row))
-
-pub slice_bounds-row-end : goal.slice_bounds-row-end
-slice_bounds-row-end c = omega (arith, room (goal.at.slice_bounds-row-end c).After-witness_row-row)
-
-pub slice_bounds-put-end-2 : goal.slice_bounds-put-end-2
-slice_bounds-put-end-2 c = sym (length-take-le _ _ (omega (arith, room (goal.at.slice_bounds-put-end-2 c).After-witness_row-row)))
-
-pub put-requires-2 : goal.put-requires-2
-put-requires-2 c = simp length-take (omega (arith, room (goal.at.put-requires-2 c).After-witness_row-row))
-
--- the refusal is none once both buffers are written
-passed : (c : After-put-2) →
-    let x = c.args in
-    stand_refusal x.p x.n x.m.now x.cs.now x.poly.now x.image.now ≡ none
-passed c = sym c.in_default.ensures
-
--- what is given, with the standing and the witness as they were found
-written : (c : After-put-2) →
-    let x = c.args in
-    StandResult x.p x.n x.m.now x.cs.now x.allowance (x.poly.now, x.image.now)
-    (outcome_of c.take_rows-gathered.result (standing_of c.witness-witness.result) c.witness-witness.result) (c.put.new.out, c.put-2.new.out)
-written c =
-    stand-written c.take_rows-gathered.ensures.gathered c.witness-witness.ensures (stand_sound _ _ _ _ _ _ (passed c)).0.size c.put.ensures
-    c.witness_row-row.ensures c.put-2.ensures
-
-pub returns-then-witness-eq0 : goal.returns-then-witness-eq0
-returns-then-witness-eq0 c =
-    let none_found : c.witness-witness.result ≡ 0 = omega arith in
-    let g = c.take_rows-gathered.result in
-    given_by (passed (goal.at.returns-then-witness-eq0 c).After-put-2) (stand_as (ap₂ (outcome_of g) (standing_proved _ none_found) none_found) (written (goal.at.returns-then-witness-eq0 c).After-put-2))
-
-pub returns : goal.returns
-returns c =
-    let found : ¬ (c.witness-witness.result ≡ 0) = omega arith in
-    given_by (passed (goal.at.returns c).After-put-2) (rw (standing_short _ found) at (written (goal.at.returns c).After-put-2))
+pub returns-in-Some : goal.returns-in-Some
+returns-in-Some c =
+    let S = stand_told _ _ _ _ _ _ c.in_ok-of_stand.ensures in
+    let row = rw c.in-Some.is at c.witness_row-row.ensures in
+    given_by (sym c.in_ok-of_stand.ensures)
+    (stand-written short c.in-Some.i c.take_rows-gathered.ensures.gathered c.in-Some.ensures S.0.size c.put.ensures row c.put-2.ensures)

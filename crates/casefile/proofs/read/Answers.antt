@@ -1,31 +1,37 @@
 -- `casefile::read` meets its contract: what is held of the records handed out so far (`Underway`), and how it ends.
 -- Assumes nothing.
-use mathlib.Core.Path.{sym}
+use mathlib.Core.Path.{ap, subst, ◌∙◌}
+use Rattle.std.specs.Prelude.{Ok}
+use native.Mathlib.Omega.{arith}
 use Rattle.meaning.specs.Case.{default_allowance}
+use Rattle.reader.specs.Step.{StepIs}
 use Rattle.casefile.proofs.Underway.{underway_start, step_less, underway_noting, underway_turn, underway_over, underway_refused}
 use Rattle.casefile.proofs.read.Goals as goal
+use Rattle.casefile.proofs.read.Goals.{After-next-stepped}
 
-pub loop-matrix-init : goal.loop-matrix-init
+said : (c : After-next-stepped) → StepIs c.args.s.now c.loop-step.reader.at c.next-stepped.result
+said c = subst (λ t. StepIs t c.loop-step.reader.at c.next-stepped.result) c.loop-step.invariant.0 c.next-stepped.ensures.step
+
+pub loop-step-init : goal.loop-step-init
 unfolding default_allowance
-loop-matrix-init c = underway_start _ c.front-at.ensures
+loop-step-init c = (ap (λ x. x.now) c.new-reader.ensures.0, underway_start _ c.new-reader.ensures.1)
 
 pub returns-in-Over : goal.returns-in-Over
-returns-in-Over c = underway_over c.loop-matrix.invariant c.step_from-stepped.ensures c.in-Over.is
+returns-in-Over c = underway_over c.loop-step.invariant.1 (said (goal.at.returns-in-Over c).After-next-stepped) (c.in-Ok.is ∙ ap Ok c.in-Over.is)
 
-pub returns-in-Refused : goal.returns-in-Refused
-returns-in-Refused c = underway_refused c.loop-matrix.invariant c.step_from-stepped.ensures c.in-Refused.is
+pub returns-in-Err : goal.returns-in-Err
+returns-in-Err c = underway_refused c.loop-step.invariant.1 (said (goal.at.returns-in-Err c).After-next-stepped) c.in-Err.is
 
-pub slice_bounds-note-end : goal.slice_bounds-note-end
-slice_bounds-note-end c = sym c.loop-matrix.invariant.matrix_size
+pub note-known-requires : goal.note-known-requires
+note-known-requires c = underway_noting c.loop-step.invariant.1 (said (goal.at.note-known-requires c).After-next-stepped) c.in-Ok.is c.in_default.not-Over
 
-pub slice_bounds-note-end-in_default : goal.slice_bounds-note-end-in_default
-slice_bounds-note-end-in_default c = sym c.loop-matrix.invariant.candidate_size
+pub loop-step-smaller : goal.loop-step-smaller
+loop-step-smaller c =
+    omega (arith, c.next-stepped.ensures.place, step_less (said (goal.at.loop-step-smaller c).After-next-stepped) c.in-Ok.is c.in_default.not-Over)
 
-pub note-more-requires : goal.note-more-requires
-note-more-requires c = underway_noting c.loop-matrix.invariant c.step_from-stepped.ensures c.in_default.not-Over c.in_default.not-Refused
-
-pub loop-matrix-smaller : goal.loop-matrix-smaller
-loop-matrix-smaller c = step_less c.step_from-stepped.ensures c.in_default.not-Over c.in_default.not-Refused
-
-pub loop-matrix-preserved : goal.loop-matrix-preserved
-loop-matrix-preserved c = underway_turn c.loop-matrix.invariant c.step_from-stepped.ensures c.in_default.not-Over c.in_default.not-Refused c.note-more.ensures c.note-more.auto.m c.note-more.auto.cs
+pub loop-step-preserved : goal.loop-step-preserved
+loop-step-preserved c = (
+  ap (λ x. x.now) c.next-stepped.ensures.same ∙ c.loop-step.invariant.0,
+  underway_turn c.loop-step.invariant.1 (said (goal.at.loop-step-preserved c).After-next-stepped) c.in-Ok.is c.in_default.not-Over
+      c.next-stepped.ensures.place c.note-known.ensures c.note-known.auto.m c.note-known.auto.cs,
+)

@@ -1,51 +1,39 @@
--- `cells::number` meets its contract. Invariant: the cell says, capped, what the digits that are left say behind the value. Measure: the digits left.
+-- `cells::number` meets its contract. Invariant: the cell says what the digits that are left say behind the value.
 -- Assumes nothing.
 use mathlib.Core.Path.{◌≡◌, sym, ap, ◌∙◌}
-use mathlib.Core.Bool.{true}
-use mathlib.Core.Option.{some}
-use Prim.Native.Nat.{ℕ, ◌+◌, ◌*◌, ◌≤◌}
-use borrow.Author.Tests.{not-true, not-false}
+use Prim.Native.Nat.{◌+◌, ◌*◌}
 use native.Mathlib.Omega.{arith}
-use lib.ListN.{get_or}
-use Rattle.meaning.specs.Design.{is_digit}
-use Rattle.cells.specs.Cells.{capped}
-use Rattle.cells.proofs.Laws.{capped_most, digit_range, number_none, number_start, number_turn, number_other, number_end}
+use borrow.Author.Tests.{eqb-true, eqb-false}
+use Rattle.cells.specs.Cells.{small}
+use Rattle.cells.proofs.Laws.{number_none, number_start, number_turn, number_other, number_end, small_over}
+use Rattle.meaning.specs.Design.{number_from, number_in}
+use lib.ListN.{drop}
 use Rattle.cells.proofs.number.Goals as goal
-use Rattle.cells.proofs.number.Goals.{Else-not-is_digit}
+use Rattle.cells.proofs.number.Goals.{Else-value-ge-TOO_LARGE, After-from}
 
-pub returns-then-cell-eq0 : goal.returns-then-cell-eq0
-returns-then-cell-eq0 c = sym (number_none _ c.if-cell-eq0.true)
+pub returns-then-is_empty-clause-value : goal.returns-then-is_empty-clause-value
+returns-then-is_empty-clause-value c = number_none _ (eqb-true _ _ (sym c.is_empty.ensures ∙ c.if-is_empty.true))
 
-pub loop-i-init : goal.loop-i-init
-loop-i-init c = (omega arith, ap capped (number_start _ c.if-cell-eq0.false))
+pub loop-b-init : goal.loop-b-init
+loop-b-init c = (omega arith, number_start _ (eqb-false _ _ (sym c.is_empty.ensures ∙ c.if-is_empty.false)))
 
-abbrev byte : Else-not-is_digit → ℕ
-byte c = get_or c.args.cell.now c.loop-i.i 0
+pub returns-then-not-is_ascii_digit-clause-value : goal.returns-then-not-is_ascii_digit-clause-value
+returns-then-not-is_ascii_digit-clause-value c =
+    number_other _ c.loop-b.b-index c.loop-b.value (omega arith) (sym c.is_ascii_digit.ensures.value ∙ c.if-not-is_ascii_digit.true)
+    ∙ ap small c.loop-b.invariant.1
 
-digit : (c : Else-not-is_digit) → is_digit (byte c) ≡ true
-digit c = sym c.is_digit.ensures ∙ not-false _ c.if-not-is_digit.false-raw
+-- one digit more
+digit : (c : After-from) → number_from (10 * c.loop-b.value + c.from.result) (drop (c.loop-b.b-index + 1) c.args.cell.now) ≡ number_in c.args.cell.now
+digit c =
+    ap (λ d. number_from (10 * c.loop-b.value + d) (drop (c.loop-b.b-index + 1) c.args.cell.now)) c.from.ensures
+    ∙ number_turn _ c.loop-b.b-index c.loop-b.value (omega arith) (sym c.is_ascii_digit.ensures.value ∙ c.if-not-is_ascii_digit.false)
+    ∙ c.loop-b.invariant.1
 
-in-range : (c : Else-not-is_digit) → (48 ≤ byte c) × (byte c ≤ 57)
-in-range c = digit_range (byte c) (digit c)
+pub returns-then-value-ge-TOO_LARGE-clause-value : goal.returns-then-value-ge-TOO_LARGE-clause-value
+returns-then-value-ge-TOO_LARGE-clause-value c = small_over _ _ (omega arith) ∙ ap small (digit (goal.at.returns-then-value-ge-TOO_LARGE-clause-value c).After-from)
 
-pub returns-then-not-is_digit : goal.returns-then-not-is_digit
-returns-then-not-is_digit c =
-    let other = sym c.is_digit.ensures ∙ not-true _ c.if-not-is_digit.true-raw in
-    sym (number_other _ c.loop-i.i c.loop-i.value (omega arith) other) ∙ c.loop-i.invariant.1
+pub loop-b-preserved : goal.loop-b-preserved
+loop-b-preserved c = (omega arith, digit (goal.at.loop-b-preserved c).After-from)
 
-pub overflow_sub-cell : goal.overflow_sub-cell
-overflow_sub-cell c = omega (arith, in-range (goal.at.overflow_sub-cell c).Else-not-is_digit)
-
-pub overflow_add-value : goal.overflow_add-value
-overflow_add-value c = omega (arith, in-range (goal.at.overflow_add-value c).Else-not-is_digit, c.wide.ensures)
-
-pub loop-i-preserved : goal.loop-i-preserved
-loop-i-preserved c =
-    let L = c.loop-i in
-    let next = c.cap-value.ensures ∙ ap (λ d. capped (some (10 * L.value + d))) c.wide.ensures in (
-      omega (arith, c.cap-value.ensures, capped_most (10 * L.value + c.wide.result)),
-      number_turn _ L.i L.value (omega arith) (digit (goal.at.loop-i-preserved c).Else-not-is_digit) next ∙ L.invariant.1,
-    )
-
-pub returns : goal.returns
-returns c = let L = c.loop-i in sym (number_end _ L.i _ (omega arith) L.invariant.0) ∙ L.invariant.1
+pub returns-clause-value : goal.returns-clause-value
+returns-clause-value c = number_end _ c.loop-b.b-index _ (omega arith) c.loop-b.invariant.0 ∙ ap small c.loop-b.invariant.1

@@ -1,9 +1,11 @@
--- `cells::used_part` meets its contract. Invariant: what is used of the line comes before the place reached. Measure: that place. Assumes nothing.
-use Rattle.cells.proofs.Laws.{UsedTo}
+-- `cells::used_part` meets its contract. Invariant: what is left comes to the same without its separators. Measure: its length. Assumes nothing.
+use mathlib.Core.Path.{◌≡◌}
+use lib.ListN.{length}
+use Rattle.cells.proofs.Laws.{trimmed}
 use Rattle.cells.proofs.used_part.Given as goal
 
-abbrev pub invariant-loop-end : goal.invariant-loop-end
-invariant-loop-end l = UsedTo l.s l.line l.end
+abbrev pub invariant-loop-last : goal.invariant-loop-last
+invariant-loop-last l = trimmed l.s l.used ≡ trimmed l.s l.initial.used
 
-abbrev pub decreases-loop-end : goal.decreases-loop-end
-decreases-loop-end l = l.end
+abbrev pub decreases-loop-last : goal.decreases-loop-last
+decreases-loop-last l = length l.used

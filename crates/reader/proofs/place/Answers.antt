@@ -5,4 +5,4 @@ use Rattle.scan.proofs.Place.{scan_place}
 use Rattle.reader.proofs.place.Goals as goal
 
 pub returns : goal.returns
-returns c = scan_place c.scan-end.ensures (le_refl _)
+returns c = scan_place c.scan.ensures (le_refl _)

@@ -25,27 +25,27 @@ returns-then-at-s c =
     subst (StepIs _ _) (sym c.said-then-at-s.ensures)
     (step_over (scan_to c.scan-here.ensures c.if-reached-at.false) c.in-Over.is c.if-at-s.true)
 
-pub scan-there-requires : goal.scan-there-requires
-scan-there-requires c =
-    (scan_to c.scan-here.ensures c.if-reached-at.false, peek_far _ _ (sym c.in-Record.ensures))
+pub scan-end-requires : goal.scan-end-requires
+scan-end-requires c =
+    (scan_to c.scan-here.ensures c.if-reached-at.false, peek_far _ _ (sym c.in-Some.ensures))
 
 pub returns-then-end-next : goal.returns-then-end-next
 returns-then-end-next c =
     subst (StepIs _ _) (sym c.said-then-end-next.ensures)
-    (step_stops (scan_to c.scan-here.ensures c.if-reached-at.false) c.if-at-s.false (sym c.in-Record.ensures)
-    (c.scan-there.ensures.stop c.if-end-next.true) c.if-end-next.true)
+    (step_stops (scan_to c.scan-here.ensures c.if-reached-at.false) c.if-at-s.false (sym c.in-Some.ensures)
+    (c.scan-end.ensures.stop c.if-end-next.true) c.if-end-next.true)
 
 pub place-requires : goal.place-requires
 place-requires c =
     scan_to c.scan-here.ensures c.if-reached-at.false
 
-pub returns-else-end-next : goal.returns-else-end-next
-returns-else-end-next c =
-    subst (StepIs _ _) (sym c.said-in-Record.ensures)
-    (step_hands (scan_to c.scan-here.ensures c.if-reached-at.false) (sym c.in-Record.ensures)
-    (scan_to c.scan-there.ensures c.if-end-next.false))
+pub returns : goal.returns
+returns c =
+    subst (StepIs _ _) (sym c.said-2.ensures)
+    (step_hands (scan_to c.scan-here.ensures c.if-reached-at.false) (sym c.in-Some.ensures)
+    (scan_to c.scan-end.ensures c.if-end-next.false))
 
-pub returns-in-Nothing : goal.returns-in-Nothing
-returns-in-Nothing c =
-    subst (StepIs _ _) (sym c.said-in-Nothing.ensures)
-    (step_nothing (scan_to c.scan-here.ensures c.if-reached-at.false) c.if-at-s.false (sym c.in-Nothing.ensures) c.place.ensures)
+pub returns-in_default-peek : goal.returns-in_default-peek
+returns-in_default-peek c =
+    subst (StepIs _ _) (sym c.said-in_default-peek.ensures)
+    (step_nothing (scan_to c.scan-here.ensures c.if-reached-at.false) c.if-at-s.false (sym c.in_default-peek.ensures) c.place.ensures)

@@ -10,13 +10,13 @@ use Rattle.reasons.proofs.bad_entry.Goals as goal
 pub overflow_add-result : goal.overflow_add-result
 overflow_add-result c =
     let x = c.args in
-    let i = c.in-At.i in
-    omega (arith, (first_bad_place x.p x.s.now i (sym c.in-At.ensures)).within, div-le_self i x.n)
+    let i = c.in_ok-i.i in
+    omega (arith, (first_bad_place x.p x.s.now i (sym c.in_ok-i.ensures)).within, div-le_self i x.n)
 
-pub returns-in-At : goal.returns-in-At
+pub returns : goal.returns
 unfolding bad_entry
-returns-in-At c = placed 1 _ _ _ (sym c.in-At.ensures)
+returns c = placed 1 _ _ _ (sym c.in_ok-i.ensures)
 
-pub returns-in-Nothing : goal.returns-in-Nothing
+pub returns-in_err-i : goal.returns-in_err-i
 unfolding bad_entry
-returns-in-Nothing c = nowhere 1 _ _ _ (sym c.in-Nothing.ensures)
+returns-in_err-i c = rw c.from_residual.ensures (nowhere 1 _ _ _ (sym c.in_err-i.ensures))

@@ -11,10 +11,7 @@ use Rattle.reasons.proofs.candidates.Goals as goal
 pub returns-then-cs-n-ne0 : goal.returns-then-cs-n-ne0
 returns-then-cs-n-ne0 c =
     let x = c.args in
-    sym (refuse_here (applies _ (λ q. omega (arith, rows_over x.n x.cs.now (omega arith) q))))
-
-pub returns-then-cs-n-gt-MOST_CANDIDATES : goal.returns-then-cs-n-gt-MOST_CANDIDATES
-returns-then-cs-n-gt-MOST_CANDIDATES c = sym (refuse_here (applies _ (λ q. omega (arith, no_rows_false _ _ (omega arith) q))))
+    sym (refuse_here (applies _ (λ q. omega (arith, rows_over x.n x.cs.now (omega arith) q, no_rows_false _ _ (omega arith) q))))
 
 pub returns : goal.returns
 returns c =

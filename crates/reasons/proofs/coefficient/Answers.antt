@@ -1,6 +1,6 @@
 -- `reasons::coefficient` meets its contract: the cell is that of the place. Assumes nothing.
 use mathlib.Core.Path.{sym, ap}
-use mathlib.Core.Option.{map}
+use Rattle.std.specs.Prelude.{option_map}
 use native.Mathlib.Omega.{arith}
 use Rattle.meaning.specs.Refusal.{at, refuse_at, bad_coefficient}
 use Rattle.meaning.proofs.Entry.{first_bad_place}
@@ -10,11 +10,11 @@ use Rattle.reasons.proofs.coefficient.Goals as goal
 pub overflow_add-result : goal.overflow_add-result
 overflow_add-result c =
     let x = c.args in
-    omega (arith, (first_bad_place x.p x.f.now c.in-At.i (sym c.in-At.ensures)).within)
+    omega (arith, (first_bad_place x.p x.f.now c.in-Some.i (sym c.in-Some.ensures)).within)
 
-pub returns-in-At : goal.returns-in-At
-returns-in-At c = coefficient_placed _ _ (sym c.in-At.ensures)
+pub returns-in-Some : goal.returns-in-Some
+returns-in-Some c = coefficient_placed _ _ (sym c.in-Some.ensures)
 
-pub returns-in-Nothing : goal.returns-in-Nothing
+pub returns-in-None : goal.returns-in-None
 unfolding refuse_at bad_coefficient
-returns-in-Nothing c = ap (map (λ k. at 11 k.row k.column)) (nowhere 0 _ _ _ (sym c.in-Nothing.ensures))
+returns-in-None c = ap (option_map (λ k. at 11 k.row k.column)) (nowhere 0 _ _ _ (sym c.in-None.ensures))

@@ -1,15 +1,13 @@
 -- `reasons::polynomial` meets its contract. Assumes nothing.
 use mathlib.Core.Path.{sym}
 use native.Mathlib.Omega.{arith}
+use Rattle.std.proofs.lemmas.Bool.Decides.{nat_tests}
 use Rattle.meaning.proofs.Refusal.{no_polynomial_false, polynomial_no_polynomial, refuse_here, refuse_none}
 use Rattle.reasons.proofs.Laws.{applies}
 use Rattle.reasons.proofs.polynomial.Goals as goal
 
-pub returns-then-f-lt1 : goal.returns-then-f-lt1
-returns-then-f-lt1 c = sym (refuse_here (applies _ (λ q. omega (arith, no_polynomial_false _ q))))
-
-pub returns-then-f-gt-COEFFICIENTS : goal.returns-then-f-gt-COEFFICIENTS
-returns-then-f-gt-COEFFICIENTS c = sym (refuse_here (applies _ (λ q. omega (arith, no_polynomial_false _ q))))
+pub returns-then-is_empty : goal.returns-then-is_empty
+returns-then-is_empty c = sym (refuse_here (applies _ (λ q. grind (arith, nat_tests, no_polynomial_false _ q))))
 
 pub returns : goal.returns
-returns c = sym (refuse_none 7 (polynomial_no_polynomial _ c.if-f-lt1.false c.if-f-gt-COEFFICIENTS.false))
+returns c = sym (refuse_none 7 (polynomial_no_polynomial _ (grind (arith, nat_tests)) (omega arith)))

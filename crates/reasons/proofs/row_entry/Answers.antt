@@ -1,13 +1,13 @@
 -- `reasons::row_entry` meets its contract: the cell that was found, with the number. Assumes nothing.
 use mathlib.Core.Path.{ap}
-use mathlib.Core.Option.{map}
+use Rattle.std.specs.Prelude.{option_map}
 use Rattle.meaning.specs.Refusal.{at, refuse_at}
 use Rattle.reasons.proofs.row_entry.Goals as goal
 
-pub returns-in-At : goal.returns-in-At
+pub returns-in-Some : goal.returns-in-Some
 unfolding refuse_at
-returns-in-At c = ap (map (λ k. at 10 k.row k.column)) c.in-At.ensures
+returns-in-Some c = ap (option_map (λ k. at 10 k.row k.column)) c.in-Some.ensures
 
-pub returns-in-Nowhere : goal.returns-in-Nowhere
+pub returns-in-None : goal.returns-in-None
 unfolding refuse_at
-returns-in-Nowhere c = ap (map (λ k. at 10 k.row k.column)) c.in-Nowhere.ensures
+returns-in-None c = ap (option_map (λ k. at 10 k.row k.column)) c.in-None.ensures

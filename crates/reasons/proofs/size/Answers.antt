@@ -8,8 +8,5 @@ use Rattle.reasons.proofs.size.Goals as goal
 pub returns-then-n-lt1 : goal.returns-then-n-lt1
 returns-then-n-lt1 c = sym (refuse_here (applies _ (λ q. omega (arith, no_size_false _ q))))
 
-pub returns-then-n-gt-WIDEST : goal.returns-then-n-gt-WIDEST
-returns-then-n-gt-WIDEST c = sym (refuse_here (applies _ (λ q. omega (arith, no_size_false _ q))))
-
 pub returns : goal.returns
 returns c = sym (refuse_none 2 (size_no_size _ (omega arith) (omega arith)))

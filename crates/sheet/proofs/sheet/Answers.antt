@@ -1,53 +1,45 @@
 -- `sheet::sheet` meets its contract: a buffer without the room is refused; otherwise the text of the file is copied to its front, and the rest of it
 -- stays. Assumes nothing.
-use mathlib.Core.Path.{◌≡◌, sym, ◌∙◌}
-use Prim.Native.Nat.{◌≤◌}
-use native.Mathlib.Omega.{arith}
-use lib.ListN.{length}
-use lib.Seq.{length-take-le}
-use Rattle.text.specs.Text.{printed}
+use Rattle.std.proofs.Common.{◌≤◌, [], length, sym, ap, ◌∙◌, arith}
+use Rattle.std.proofs.lemmas.Result.{err_from_is_err_and}
 use Rattle.meaning.proofs.Called.{refused_by, given_by}
-use Rattle.meaning.proofs.SheetRoom.{room_bytes, room_six, room_none}
+use lib.Seq.{length-take-le}
+use Rattle.meaning.specs.Sheet.{sheet_room}
+use Rattle.meaning.proofs.Refusal.{none_refuse, first_here, first_next, first_end, too_short_false}
+use Rattle.meaning.proofs.SheetRoom.{room_bytes}
 use Rattle.meaning.proofs.Written.{front_write}
-use borrow.Author.Rules.{rules}
 use Rattle.sheet.proofs.sheet.Goals as goal
-use Rattle.sheet.proofs.sheet.Goals.{After-file_text-t}
+use Rattle.sheet.proofs.sheet.Goals.{After-as_bytes-bytes}
 
-pub returns-then-out-lt-ROOM : goal.returns-then-out-lt-ROOM
-returns-then-out-lt-ROOM c = refused_by (room_six c.args.out.now (omega (arith, room_bytes)))
+pub returns-in_err-room : goal.returns-in_err-room
+unfolding sheet_room
+returns-in_err-room c =
+    let p = err_from_is_err_and c.from_residual.result c.from_residual.ensures.1 in
+    rw (p.1, p.2) (refused_by (first_here _ [] (sym c.in_err-room.ensures)))
 
--- the text lies within its own bytes and within the buffer
-within : (c : After-file_text-t) → let t = c.file_text-t.result in (t.len ≤ length t.bytes) × (t.len ≤ length c.args.out.now)
+-- the text lies within the buffer
+within : (c : After-as_bytes-bytes) → length c.as_bytes-bytes.result.now ≤ length c.args.out.now
 within c =
-    let T = c.file_text-t.ensures in
-    let long : length c.file_text-t.result.bytes ≡ 2048 = search rules in
-    (omega (arith, T.is.size, T.room, room_bytes), omega (arith, T.is.size, T.room, room_bytes, c.if-out-lt-ROOM.false))
+    let room = too_short_false 2048 c.args.out.now (none_refuse 6 _ (sym c.in_ok-room.ensures)) in
+    omega (arith, ap length c.as_bytes-bytes.ensures, c.file_text-t.ensures.room, room_bytes, room)
 
-pub slice_bounds-bytes-end : goal.slice_bounds-bytes-end
-slice_bounds-bytes-end c = (within (goal.at.slice_bounds-bytes-end c).After-file_text-t).0
+pub slice_bounds-copy_from_slice-end : goal.slice_bounds-copy_from_slice-end
+slice_bounds-copy_from_slice-end c = within c
 
-pub slice_bounds-copy-end : goal.slice_bounds-copy-end
-slice_bounds-copy-end c = sym (length-take-le _ _ (within (goal.at.slice_bounds-copy-end c).After-file_text-t).0)
+pub slice_bounds-copy_from_slice-end-2 : goal.slice_bounds-copy_from_slice-end-2
+slice_bounds-copy_from_slice-end-2 c = sym (length-take-le _ _ (within (goal.at.slice_bounds-copy_from_slice-end-2 c).After-as_bytes-bytes))
 
-pub slice_bounds-copy-end-2 : goal.slice_bounds-copy-end-2
-slice_bounds-copy-end-2 c = (within (goal.at.slice_bounds-copy-end-2 c).After-file_text-t).1
-
-pub slice_bounds-copy-end-3 : goal.slice_bounds-copy-end-3
-slice_bounds-copy-end-3 c = sym (length-take-le _ _ (within (goal.at.slice_bounds-copy-end-3 c).After-file_text-t).1)
-
-pub copy-requires : goal.copy-requires
-copy-requires c =
-    let W = within (goal.at.copy-requires c).After-file_text-t in
-    length-take-le _ _ W.1 ∙ sym (length-take-le _ _ W.0)
+pub copy_from_slice-requires : goal.copy_from_slice-requires
+copy_from_slice-requires c = length-take-le _ _ (within (goal.at.copy_from_slice-requires c).After-as_bytes-bytes)
 
 pub returns : goal.returns
-unfolding printed
+unfolding sheet_room
 returns c =
-    let T = c.file_text-t.ensures in
-    given_by (room_none c.args.out.now (omega (arith, room_bytes, c.if-out-lt-ROOM.false)))
+    let same = c.as_bytes-bytes.ensures in
+    given_by (first_next _ [] (sym c.in_ok-room.ensures) ∙ first_end)
     (record {
-      printed = T.bytes;
-      sheet = T.sheet;
-      size = T.is.size;
-      buffer = front_write c.args.out.now (c.copy.ensures ∙ T.is.prints) (sym T.is.size);
+      printed = c.file_text-t.result;
+      sheet = c.file_text-t.ensures.sheet;
+      size = ap length same;
+      buffer = front_write c.args.out.now (c.copy_from_slice.ensures.after ∙ same) (sym (ap length same));
     })

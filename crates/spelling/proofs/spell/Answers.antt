@@ -1,51 +1,56 @@
--- `spelling::spell` meets its contract. Invariant: what the lines from `at` on say comes to what the text says. Measure: what is left of the text.
+-- `spelling::spell` meets its contract. Invariant: what the lines that are left say comes to what the text says.
 -- Assumes nothing.
-use mathlib.Core.Path.{refl}
+use mathlib.Core.Path.{◌≡◌, refl, ap}
+use Prim.Native.Nat.{◌+◌, ◌≤◌}
 use native.Mathlib.Omega.{arith}
 use borrow.Author.Rules.{rules}
-use Rattle.meaning.specs.Design.{spot_at}
-use Rattle.spelling.proofs.Pieces.{pieces_past, pieces_turn}
-use Rattle.spelling.proofs.Lines.{text_start, lines_turn, lines_last, end_line}
+use borrow.Author.Tests.{tests}
+use lib.ListN.{length}
+use Rattle.std.proofs.lemmas.List.{length_push}
+use Rattle.std.proofs.lemmas.Iterator.Consumers.{YieldsList-at}
+use Rattle.meaning.specs.Design.{without_mark, cut_at}
+use Rattle.spelling.specs.Trace.{spot_of}
+use Rattle.spelling.proofs.Pieces.{length_cut, split_pieces, next_piece, no_piece}
+use Rattle.spelling.proofs.Lines.{text_start, lines_next, lines_last, end_line}
 use Rattle.spelling.proofs.spell.Goals as goal
 
-pub loop-at-init : goal.loop-at-init
-loop-at-init c =
-    let M = c.front-at.ensures in
-    (refl, omega (arith, M.within), omega arith, omega arith, text_start _ _ c.separator-s.ensures M)
-
-pub slice_bounds-say_line-count : goal.slice_bounds-say_line-count
-slice_bounds-say_line-count c = omega (arith, c.find-end.ensures.after)
-
-pub slice_bounds-say_line-start : goal.slice_bounds-say_line-start
-slice_bounds-say_line-start c = omega (arith, c.find-end.ensures.after)
-
-pub slice_bounds-say_line-end : goal.slice_bounds-say_line-end
-slice_bounds-say_line-end c = omega (arith, c.find-end.ensures.within)
-
-pub overflow_add-at : goal.overflow_add-at
-overflow_add-at c = omega (arith, c.find-end.ensures.within)
+pub loop-l-init : goal.loop-l-init
+loop-l-init c = (refl, omega arith, text_start _ _ c.separator-s.ensures refl)
 
 pub overflow_add-line : goal.overflow_add-line
-overflow_add-line c = omega (arith, c.find-end.ensures.within, c.loop-at.invariant.2, c.loop-at.invariant.1)
+overflow_add-line c =
+    let t = next_piece c.loop-l.yielded _ _ _ c.in-Some.l c.loop-l.yielded_by c.in-Some.is c.next.ensures.steps (YieldsList-at c.into_iter-l-iterator.ensures.into_iter_gives
+    (split_pieces _ 10 c.split-l-items.ensures.rest c.split-l-items.ensures.done c.split-l-items.ensures.closure c.without_mark-body.ensures
+    (λ x r q k. search (rules, tests)))) in
+    let many : length (cut_at 10 (without_mark c.args.text.now)) ≤ length (without_mark c.args.text.now) + 1 = length_cut _ _ in
+    let long : length c.without_mark-body.result.now ≡ length (without_mark c.args.text.now) = ap length c.without_mark-body.ensures in
+    omega (arith, c.loop-l.invariant.0, t.0, many, long)
 
-pub loop-at-smaller : goal.loop-at-smaller
-loop-at-smaller c = omega (arith, c.find-end.ensures.within, c.find-end.ensures.after)
-
-pub loop-at-preserved : goal.loop-at-preserved
-loop-at-preserved c =
-    let I = c.loop-at.invariant in
-    let F = c.find-end.ensures in
-    let E = c.say_line-next.ensures in
-    let inside = end_line (spot_at c.loop-at.here.line c.loop-at.here.cell) c.loop-at.line _ _ E.cell_value (omega (arith, I.3)) in (
-      search rules,
-      omega (arith, F.within),
-      omega (arith, F.after, I.2),
+pub loop-l-preserved : goal.loop-l-preserved
+loop-l-preserved c =
+    let t = next_piece c.loop-l.yielded _ _ _ c.in-Some.l c.loop-l.yielded_by c.in-Some.is c.next.ensures.steps (YieldsList-at c.into_iter-l-iterator.ensures.into_iter_gives
+    (split_pieces _ 10 c.split-l-items.ensures.rest c.split-l-items.ensures.done c.split-l-items.ensures.closure c.without_mark-body.ensures
+    (λ x r q k. search (rules, tests)))) in
+    let I = c.loop-l.invariant in
+    let E = c.say_line-here.ensures in
+    let inside = end_line (spot_of c.loop-l.here.spot) c.loop-l.line _ _ E.spot_after (omega (arith, I.1)) in (
+      omega (arith, I.0, length_push c.loop-l.yielded c.in-Some.l),
       omega (arith, inside),
-      lines_turn I.4 (pieces_turn c.loop-at-test.true F) E.out_after E.cell_value,
+      lines_next _ _ I.2 t (length_push c.loop-l.yielded c.in-Some.l) E.out_after E.spot_after,
     )
 
-pub overflow_add-here : goal.overflow_add-here
-overflow_add-here c = let I = c.loop-at.invariant in omega (arith, I.1, I.2, I.3)
+pub overflow_add-last : goal.overflow_add-last
+overflow_add-last c =
+    let t = no_piece c.loop-l.yielded _ _ _ c.loop-l.yielded_by c.in-None.is c.next.ensures.steps (YieldsList-at c.into_iter-l-iterator.ensures.into_iter_gives
+    (split_pieces _ 10 c.split-l-items.ensures.rest c.split-l-items.ensures.done c.split-l-items.ensures.closure c.without_mark-body.ensures
+    (λ x r q k. search (rules, tests)))) in
+    let many : length (cut_at 10 (without_mark c.args.text.now)) ≤ length (without_mark c.args.text.now) + 1 = length_cut _ _ in
+    let long : length c.without_mark-body.result.now ≡ length (without_mark c.args.text.now) = ap length c.without_mark-body.ensures in
+    omega (arith, c.loop-l.invariant.0, c.loop-l.invariant.1, t, many, long)
 
 pub returns : goal.returns
-returns c = lines_last c.loop-at.invariant.4 (pieces_past _ _ _ (omega (arith, c.loop-at-test.false))) c.say-marked.ensures c.say.ensures
+returns c =
+    let t = no_piece c.loop-l.yielded _ _ _ c.loop-l.yielded_by c.in-None.is c.next.ensures.steps (YieldsList-at c.into_iter-l-iterator.ensures.into_iter_gives
+    (split_pieces _ 10 c.split-l-items.ensures.rest c.split-l-items.ensures.done c.split-l-items.ensures.closure c.without_mark-body.ensures
+    (λ x r q k. search (rules, tests)))) in
+    lines_last _ _ c.loop-l.invariant.2 t c.say-marked.ensures c.say.ensures

@@ -7,4 +7,4 @@ pub overflow_cast-result : goal.overflow_cast-result
 overflow_cast-result c = omega (arith, (test_prime _ c.is_prime.ensures c.if-is_prime.true).1)
 
 pub returns-then-is_prime : goal.returns-then-is_prime
-returns-then-is_prime c = λ _. (test_prime _ c.is_prime.ensures c.if-is_prime.true).0
+returns-then-is_prime c = (test_prime _ c.is_prime.ensures c.if-is_prime.true).0

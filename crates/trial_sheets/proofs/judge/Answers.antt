@@ -4,7 +4,7 @@ use Rattle.sheet.proofs.Size.{sheet_size}
 use Rattle.trial_sheets.proofs.judge.Goals as goal
 
 pub slice_bounds-out-end : goal.slice_bounds-out-end
-slice_bounds-out-end g c = sheet_size c.sheet-answer.ensures c.in-Length.is
+slice_bounds-out-end g c = sheet_size c.sheet.ensures c.in-Ok.is
 
 pub slice_bounds-eq-end : goal.slice_bounds-eq-end
-slice_bounds-eq-end g c = sym (length-take-le _ _ (sheet_size c.sheet-answer.ensures c.in-Length.is))
+slice_bounds-eq-end g c = sym (length-take-le _ _ (sheet_size c.sheet.ensures c.in-Ok.is))

@@ -1,10 +1,10 @@
--- `escaped::decode` keeps within its buffer. Invariant: the count is within the buffer, whose length stays. Measure: what is left of the line.
+-- `escaped::decode` keeps within its room. Invariant: the count is within the room, whose length stays. Measure: what is left of the line.
 -- Assumes nothing.
-use Rattle.std.proofs.Common.{◌≡◌, ◌≤◌, ◌-◌, length}
+use Rattle.std.proofs.Common.{◌≡◌, ◌≤◌, length}
 use Rattle.trial_designs.proofs.escaped.decode.Given as goal
 
-abbrev pub invariant-loop-at : goal.invariant-loop-at
-invariant-loop-at l = (length l.out ≡ length l.initial.out) × (l.count ≤ length l.out)
+abbrev pub invariant-loop-byte : goal.invariant-loop-byte
+invariant-loop-byte l = (length l.room ≡ length l.initial.room) × (l.count ≤ length l.room)
 
-abbrev pub decreases-loop-at : goal.decreases-loop-at
-decreases-loop-at l = length l.s - l.at
+abbrev pub decreases-loop-byte : goal.decreases-loop-byte
+decreases-loop-byte l = length l.rest

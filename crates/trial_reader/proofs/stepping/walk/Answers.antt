@@ -3,4 +3,4 @@ use Rattle.casefile.proofs.Underway.{step_less}
 use Rattle.trial_reader.proofs.stepping.walk.Goals as goal
 
 pub loop-stepped-smaller : goal.loop-stepped-smaller
-loop-stepped-smaller g c = step_less c.in_ok-stepped.ensures c.in_default.not-Over c.in_default.not-Refused
+loop-stepped-smaller g c = step_less c.in_ok-stepped.ensures c.in-Ok.is c.in_default-said.not-Over

@@ -1,0 +1,10 @@
+-- `make_case::make` writes what the call says it made, which lies at the front of the buffer (`made_size`). Assumes nothing.
+use Rattle.std.proofs.Common.{sym, length-take-le}
+use Rattle.make_case.proofs.Laws.{made_size}
+use Rattle.make_case.proofs.make.Goals as goal
+
+pub slice_bounds-out-end : goal.slice_bounds-out-end
+slice_bounds-out-end g c = made_size c.make.ensures c.in-Ok-Ok.is c.in-Ok-Ok.field-0-is
+
+pub slice_bounds-write_all-end : goal.slice_bounds-write_all-end
+slice_bounds-write_all-end g c = sym (length-take-le _ _ (made_size c.make.ensures c.in-Ok-Ok.is c.in-Ok-Ok.field-0-is))

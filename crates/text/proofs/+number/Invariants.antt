@@ -1,5 +1,0 @@
--- `text::number` ends: each call is on a tenth. Measure: the number. Assumes nothing.
-use Rattle.text.proofs.+number.Given as goal
-
-abbrev pub decreases-number : goal.decreases-number
-decreases-number l = l.x
