@@ -3,3 +3,4 @@ pub mod Ticks
 pub mod Parts
 pub mod Along
 pub mod Sums
+pub mod Front

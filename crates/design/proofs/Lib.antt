@@ -4,3 +4,4 @@ pub mod Ends
 pub mod Designed
 pub mod Once
 pub mod Making
+pub mod Size

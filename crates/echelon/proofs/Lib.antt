@@ -1,3 +1,4 @@
 pub mod Sums
 pub mod Clearing
 pub mod Relating
+pub mod Front

@@ -1,6 +1,7 @@
 // The face for C and for Rust: each call of the library under a plain name, with numbers, slices and one struct for each answer. The number of
 // `refusal` is 0 where the call is answered, else that of its refusal, with the row and the column of a bad entry, and then all else is 0. The crate
-// kinarsop_c exports these functions to C, each under its name and with its clauses.
+// kinarsop_c exports these functions to C, each under its name and with its clauses. The numbers that stand for what is not there, the flag and the
+// structs that differ in a field's name alone are the C interface.
 #![tactic(auto)]
 
 ghost use Rattle.std.specs.Prelude.{◌≡◌, ◌≢◌, [], ◌∷◌};

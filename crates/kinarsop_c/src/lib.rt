@@ -1,5 +1,6 @@
 // The static library: each function of kinarsop, the face, under its name for C and with its clauses. A slice is a pointer and a length, and an answer is
 // a struct by value. What a C programmer has to know is in include/kinarsop.h; nothing holds that file to this one but the trials from outside.
+// Functions and clauses stand here once more: a static library exports, and no crate can use it.
 #![tactic(auto)]
 
 ghost use Rattle.std.specs.Prelude.{[], ◌∷◌};

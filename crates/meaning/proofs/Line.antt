@@ -6,7 +6,6 @@
 --   each_append                   what holds of each byte of two lists holds of each of both
 --   decimal-digits                every byte is that of a digit
 --   spaced_append, spaced-next    lists of numbers joined, and what stands behind them
---   spaced_left                   the next number of a list of which k are left
 --   text_append                   the bytes of lines and more lines
 -- Assumes nothing.
 use mathlib.Core.Path.{◌≡◌, refl, sym, ap, ◌∙◌}
@@ -96,12 +95,6 @@ spaced_drop : (s : List ℕ) (i : ℕ) → i < length s → spaced (drop i s) �
 spaced_drop s i h =
     ap spaced (drop-cons s i 0 h) ∙ spaced_append (get_or s i 0 ∷ []) (drop (suc i) s)
     ∙ ap (λ j. spaced (get_or s i 0 ∷ []) ++ spaced (drop j s)) (sym (add-one i))
-
-pub spaced_left : (s : List ℕ) (k : ℕ) → 0 < k → k ≤ length s
-    → spaced (drop (length s - k) s) ≡ spaced (get_or s (length s - k) 0 ∷ []) ++ spaced (drop (length s - (k - 1)) s)
-spaced_left s k h j =
-    let next : length s - k + 1 ≡ length s - (k - 1) = omega arith in
-    spaced_drop s (length s - k) (omega arith) ∙ ap (λ i. spaced (get_or s (length s - k) 0 ∷ []) ++ spaced (drop i s)) next
 
 pub text_append : (xs ys : List Line) → text (xs ++ ys) ≡ text xs ++ text ys
 unfolding text

@@ -1,6 +1,5 @@
 -- Every sheet fits a buffer of `sheet_room` bytes, and a shorter one is refused.
 --   room_bytes        the code's room is that of a sheet
---   room_six, room_none   when the call refuses
 --   given_size        the length that the call answers is that of bytes at the front of the buffer
 --   spaced_length     numbers below 1,000 take four bytes each at most
 --   line_length       the bytes of a line
@@ -40,13 +39,6 @@ use Rattle.meaning.proofs.Written.{write_covers}
 pub room_bytes : sheet_room ≡ 2048
 unfolding sheet_room
 room_bytes = refl
-
-pub room_six : (out : List ℕ) → length out < sheet_room → first (refuse 6 (too_short sheet_room out) ∷ []) ≡ Some (alone 6)
-unfolding too_short
-room_six out h = first_here _ [] (refuse_here (lt-ltb (length out) sheet_room h))
-
-pub room_none : (out : List ℕ) → sheet_room ≤ length out → first (refuse 6 (too_short sheet_room out) ∷ []) ≡ None
-room_none out h = first_next _ [] (refuse_none 6 (long-too_short sheet_room out h)) ∙ first_end
 
 pub given_size : {s old new : List ℕ} {k : ℕ} → SheetCall s old (given k) new → k ≤ length new
 given_size {old = old} h =

@@ -8,7 +8,6 @@
 --   padded_take     what is in front of the zeros
 --   padded_front    fewer zeros
 --   padded_paste    bytes put behind others, where there were zeros
---   paste_more      one byte more of what is pasted
 -- Assumes nothing.
 use mathlib.Core.Path.{◌≡◌, sym, ap, ap₂, ◌∙◌}
 use mathlib.Core.List.{List, [], ◌∷◌, ◌++◌, append_assoc}
@@ -64,7 +63,3 @@ pub padded_paste : (k : ℕ) (a l : List ℕ) → length a + length l ≤ k → 
 padded_paste k a l h =
     let rest : List ℕ = drop (length a + length l) (padded k a) in
     ap (λ t. (take (length a) (padded k a) ++ t) ++ rest) (take-length l) ∙ append_assoc (take (length a) (padded k a)) l rest ∙ padded_turn k a l h
-
-pub paste_more : {new : List ℕ} (d : List ℕ) (at : ℕ) (s : List ℕ) (i : ℕ) → at + i < length d → i < length s → new ≡ paste d at s i
-    → set new (at + i) (get_or s i 0) ≡ paste d at s (i + 1)
-paste_more d at s i h k e = ap (λ l. set l (at + i) (get_or s i 0)) e ∙ paste-suc d at s i 0 h k ∙ ap (paste d at s) (sym (add-one i))

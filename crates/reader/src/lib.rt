@@ -1,5 +1,6 @@
 // The records of a case file, one after another (01, "Case file, house layout"): "The reader keeps the case bytes and its place in them and goes record by
 // record; the entries it hands back are that very stretch of the caller's bytes."
+// `Reader` is the struct of slice and offset; its few methods are thin, over functions on the two.
 #![tactic(auto)]
 
 ghost use Rattle.std.specs.Prelude.{◌≡◌, ◌+◌, ◌≤◌, length, drop};

@@ -1,4 +1,5 @@
-// Why a call is refused: each test of the refusal table by itself, and a reason as the documents number it.
+// Why a call is refused: each test of the refusal table by itself, and a reason as the documents number it. The tests take p, n and the lists apart, as
+// they come: whether they make a machine is what is tested.
 #![tactic(auto)]
 
 ghost use Rattle.std.specs.Prelude.{◌≡◌, ◌<◌, ◌≤◌, option_map};

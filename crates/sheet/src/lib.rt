@@ -43,7 +43,7 @@ fn stage_lines(t: &mut Text, count: usize, stages: &[u8])
     }
 }
 
-// WITNESS with the index, counted from 1, and the entries of the image.
+// WITNESS with the index, counted from 1, and the entries of the image. It is no `Text::line`, nor is a STAGE line: their numbers lie in two places.
 fn witness_line(t: &mut Text, w: usize, image: &[u8])
     requires { HasRoom t.old (line_of (ascii "WITNESS") (w ∷ image.now)) }
     ensures { t.new ≡ t.old ++ line_of (ascii "WITNESS") (w ∷ image.now) }

@@ -9,7 +9,7 @@ ghost use Rattle.spelling.specs.Trace.{spot_of, step, steps, started};
 use meaning::{MARK, RADIX};
 use scan::State;
 
-// What is no word and no number is taken for this: no byte of a case, wherever it stands.
+// What is no word and no number is taken for this: no byte of a case, wherever it stands. The definition of what a text says has this byte (`no_byte`).
 const NO_BYTE: u8 = 254;
 
 // A line and a cell of a text, counted from 1.

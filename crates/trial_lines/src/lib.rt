@@ -103,7 +103,7 @@ impl<'a> Line<'a> {
         self.bytes.split(|x| *x == b'|').nth(number).unwrap_or(&[])
     }
 
-    // The first number of a group, or 0 where it has none.
+    // The first number of a group, or 0 where it has none: of an `Option` every caller would ask for just that.
     pub fn number(self, group: usize) -> u32 {
         match next_run(self.group(group)) {
             Some((run, _)) => run.value,

@@ -14,7 +14,7 @@ pub fn answer(rt: &impl Print, line: Line) -> Result<(), Unanswered> {
     Ok(())
 }
 
-// The last step, which hands out no record, is made twice: it must say the same again.
+// The last step, which hands out no record, is made twice: it must say the same again. No index is counted: a step says itself that it is the last.
 fn walk(rt: &impl Print, s: &[u8]) -> io::Result<()> {
     let mut at = reader::front();
     loop {

@@ -65,10 +65,7 @@ fn judge(rt: &impl Print, file: &[u8], stored: &[u8]) -> io::Result<()> {
 fn judge_text(rt: &impl Print, text: &[u8], stored: &[u8]) -> io::Result<()> {
     let mut case = [0u8; LONGEST_CASE];
     match design::make(text, &mut case) {
-        Ok(Ok(k)) => match case.get(..k) {
-            Some(case) => judge(rt, case, stored),
-            None => Ok(()),
-        },
+        Ok(Ok(k)) => judge(rt, &case[..k], stored),
         Ok(Err(_)) => println!(rt; " refused"),
         Err(_) => println!(rt; " wrong"),
     }

@@ -1,7 +1,6 @@
 -- Bytes laid down behind one another are laid down at once.
 --   laid_start        nothing is laid down yet
 --   laid_turn         bytes behind others
---   laid-part         a part of a buffer, by where it ends
 --   laid_length       the buffer is as long as before
 --   laid_room         there is room for more behind them
 --   laid_front        bytes at the front of a buffer
@@ -62,11 +61,6 @@ laid_turn {d} {s = s} {t = t} {at = at} h A B = record {
   place = omega (arith, A.place, B.place, length-append s t);
   buffer = B.buffer ∙ ap₂ (λ l k. laid_down l k t) A.buffer A.place ∙ laid_twice d at s t h;
 }
-
-pub laid-part : {a s : List ℕ} (d : List ℕ) (at : ℕ) → a ≡ s → take at d ++ (a ++ drop (at + length s - at) (drop at d)) ≡ laid_down d at s
-laid-part {a} {s} d at e =
-    let sum : at + (at + length s - at) ≡ at + length s = omega arith in
-    ap₂ (λ l r. take at d ++ (l ++ r)) e (drop-drop (at + length s - at) at d ∙ ap (λ k. drop k d) sum)
 
 pub laid_length : {d e s : List ℕ} {at r : ℕ} → at + length s ≤ length d → LaidAt d at s r e → length e ≡ length d
 laid_length {d} {e} {s} {at} h A =

@@ -1,6 +1,6 @@
 -- `make_case::make` writes what the call says it made, which lies at the front of the buffer (`made_size`). Assumes nothing.
 use Rattle.std.proofs.Common.{sym, length-take-le}
-use Rattle.make_case.proofs.Laws.{made_size}
+use Rattle.design.proofs.Size.{made_size}
 use Rattle.make_case.proofs.make.Goals as goal
 
 pub slice_bounds-out-end : goal.slice_bounds-out-end

@@ -1,4 +1,4 @@
--- How long a case is that was made.
+-- How long a case is that was made of a text.
 --   made_size   the length that the call answers is that of bytes at the front of the buffer
 -- Assumes nothing.
 use Rattle.std.proofs.Common.{◌≡◌, ℕ, ◌≤◌, List, length, sym, ap, ◌∙◌, subst, arith}
