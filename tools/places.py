@@ -63,10 +63,10 @@ for path in files:
             for b in range(a + 1, len(key)):
                 for c in range(b + 1, len(key)):
                     groups[(key[a], key[b], key[c])].append((path, line, name))
-        if re.search(r'\[u8\]', head) and re.search(r'\b(at|count|len|from|k): usize', head.split('ensures')[0]):
+        if re.search(r'\[(u8|Slot)\]', head) and re.search(r'\b(at|count|len|from|k): usize', head.split('ensures')[0]):
             note('6 a buffer with a place or a count beside it', path, line, name)
     for m in re.finditer(r'(?:pub )?struct (\w+)[^{;]*\{(.*?)\n\}', text, re.S):
-        if re.search(r'\[u8[;\]]', m.group(2)) and re.search(r': usize', m.group(2)):
+        if re.search(r'\[(u8|Slot)[;\]]', m.group(2)) and re.search(r': usize', m.group(2)):
             note('6 a buffer with a place or a count beside it', path, text[:m.start()].count('\n') + 1, 'struct ' + m.group(1))
 for places in shapes.values():
     if len(places) > 1:
