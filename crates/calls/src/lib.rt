@@ -53,7 +53,7 @@ pub fn order(p: u32, n: usize, m: &[u8], v: &[u8], out: &mut [u8]) -> Result<usi
 {
     refusals::of_order(p, n, m, v, out)?;
     let machine = Machine { p: p as u8, n, m };
-    let mut kept_rows = [slots::BLANK; WIDEST];
+    let mut kept_rows = slots::blank_slots();
     let f = spin::spin(&machine, v, &mut kept_rows, 0);
     put(&f.c[..n + 1], out);
     Ok(f.deg)
@@ -84,7 +84,7 @@ pub fn stand(
 {
     refusals::of_stand(p, n, m, cs, poly, image)?;
     let machine = Machine { p: p as u8, n, m };
-    let mut kept_rows = [slots::BLANK; WIDEST];
+    let mut kept_rows = slots::blank_slots();
     let gathered = taken::take_rows(&machine, cs, allowance, &mut kept_rows);
     let f = gathered.poly;
     let witness = witness::witness(&machine, f, &mut kept_rows, gathered.known);

@@ -132,7 +132,8 @@ fn enter(h: Head, bound: u8, left: u8, b: u8) -> State
     }
 }
 
-// The state behind one more byte.
+// The state behind one more byte. Laid into the loop of `scan`, where a file's bytes are gone over.
+#[inline(always)]
 #[tactic(auto, unfolding(crate::specs::Machine::after))]
 pub fn behind(q: State, b: u8) -> State
     ensures { result ≡ after q b }
@@ -150,7 +151,9 @@ pub fn behind(q: State, b: u8) -> State
     }
 }
 
-// From a state reached at `from` on to the offset `to`, or as far as the bytes begin a well-formed case.
+// From a state reached at `from` on to the offset `to`, or as far as the bytes begin a well-formed case. Not laid into its callers: there its state would
+// lie in memory, and not in registers.
+#[inline(never)]
 pub fn scan(s: &[u8], q: State, from: usize, to: usize) -> Scanned
     requires { Scans s.now from q × (from ≤ to) }
     ensures { ScanIs s.now from to result.at result.state }

@@ -11,6 +11,7 @@ ghost use Rattle.text.specs.Text.{HasRoom, line_of};
 ghost use Rattle.sheet.specs.Lines.{proved_lines, short_lines, stood_lines, StoodFits, StagesIn, stage_lines_in, chained_lines, perioded_lines, CaseText, FileText};
 
 use calls::{Counts, Stood};
+use casefile::Contents;
 use meaning::{COEFFICIENTS, STAGE_RECORD, WIDEST};
 use reasons::Reason;
 use text::Text;
@@ -137,11 +138,16 @@ fn case_text(p: u32, n: usize, m: &[u8], cs: &[u8], allowance: u32) -> Text
 fn file_text(file: &[u8]) -> Text
     ensures { FileText file.now result }
 {
-    let contents = casefile::read(file);
-    match contents.answer {
+    // Taken apart, so that the arrays are not copied into one more struct.
+    let Contents {
+        answer,
+        matrix,
+        candidates,
+    } = casefile::read(file);
+    match answer {
         Ok(case) => {
-            let matrix = &contents.matrix[..case.n * case.n];
-            let candidates = &contents.candidates[..case.count * case.n];
+            let matrix = &matrix[..case.n * case.n];
+            let candidates = &candidates[..case.count * case.n];
             case_text(case.p, case.n, matrix, candidates, case.allowance)
         }
         Err(place) => {

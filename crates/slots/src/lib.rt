@@ -1,7 +1,9 @@
 // The slots that kept rows lie in, one behind the other: what `echelon`, `coordinates` read and `store` writes.
 #![tactic(auto)]
 
-ghost use Rattle.std.specs.Prelude.{◌≡◌, ℕ, ◌-◌, ◌≤◌, length, get_or, take, drop};
+ghost use Rattle.std.specs.Prelude.{◌≡◌, ℕ, ◌-◌, ◌≤◌, length, get_or, take, drop, replicate};
+ghost use Rattle.meaning.specs.Bounds.{widest};
+ghost use Rattle.slots.specs.Slots.{blank};
 
 use meaning::WIDEST;
 
@@ -26,6 +28,15 @@ pub const BLANK: Slot = Slot {
     taken: [0; WIDEST],
     relation: [0; WIDEST],
 };
+
+// As many blank slots as a machine can have rows. A function, since what it hands back is one stretch of zeros, where an array written in place is
+// written slot by slot: that is felt at machines of few rows.
+#[inline]
+pub fn blank_slots() -> [Slot; WIDEST]
+    ensures { result ≡ replicate widest blank }
+{
+    [BLANK; WIDEST]
+}
 
 // The bytes of a row from one place up to another. As a parameter they are known to be bytes, which of a slot's field is not known.
 #[inline]

@@ -1,7 +1,7 @@
 // Laying down a case (02, #101): F, A, the rows, the candidates and E, one behind another at the front of a buffer.
 #![tactic(auto)]
 
-ghost use Rattle.std.specs.Prelude.{◌∷◌, ◌+◌, ◌<◌, ◌≤◌, length};
+ghost use Rattle.std.specs.Prelude.{◌≡◌, ◌∷◌, ◌+◌, ◌<◌, ◌≤◌, length};
 ghost use Rattle.meaning.specs.Bytes.{byte_rows};
 ghost use Rattle.meaning.specs.Writing.{WriteCall};
 ghost use Rattle.reasons.specs.Reasons.{answer_of};
@@ -10,13 +10,23 @@ ghost use Rattle.writer.specs.Laying.{LaidAt, marked, WholeRows};
 use meaning::{MARK, RADIX};
 use reasons::Reason;
 
+// The bytes of s over as many others, one by one. Where both are lent, `copy_from_slice` is a `memmove`, which the library for C is to do without.
+fn copy(s: &[u8], to: &mut [u8])
+    requires { length to.old ≡ length s.now }
+    ensures { to.new ≡ s.now }
+{
+    for (i, b) in s.iter().enumerate() {
+        to[i] = *b;
+    }
+}
+
 // The bytes of s from `at` on. What is returned is the place behind them; a struct that holds buffer and place would need a clause on what it lends.
 fn lay(s: &[u8], out: &mut [u8], at: usize) -> usize
     requires { at + length s.now ≤ length out.old }
     ensures { LaidAt out.old at s.now result out.new }
 {
     let behind = at + s.len();
-    out[at..behind].copy_from_slice(s);
+    copy(s, &mut out[at..behind]);
     behind
 }
 
